@@ -1,0 +1,15 @@
+-- The state of a list of uses, one use more at its end. Assumes nothing.
+use mathlib.Core.Path.{_≡_, sym, ap, _∙_}
+use mathlib.Core.List.{List, [], _∷_, _++_}
+use Prim.Native.Nat.{ℕ, _+_, _<_}
+use lib.ListN.{length, take, getD}
+use Rattle.std.proofs.shelf.Sums.{folded-push, folded-more}
+use Rattle.kinds.specs.Kinds.{Model, along}
+
+module _ {K S U : Type 0} (m : Model K S U) (k : K) where
+  pub along-push : (us : List U) (u : U) → along m k (us ++ u ∷ []) ≡ m .extended k (along m k us) u
+  along-push us u = folded-push (m .extended k) (m .start k) us u
+
+  pub along-more : (us : List U) (i : ℕ) (u : U) → i < length us → u ≡ getD us i u → m .extended k (along m k (take i us)) u ≡ along m k (take (i + 1) us)
+  along-more us i u inside read =
+      ap (m .extended k (along m k (take i us))) read ∙ sym (folded-more (m .extended k) (m .start k) us i u inside)

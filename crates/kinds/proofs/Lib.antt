@@ -1,0 +1,5 @@
+pub mod Along
+pub mod Bits
+pub mod BudgetLaws
+pub mod DuctLaws
+pub mod PairLaws

@@ -1,0 +1,42 @@
+// Clock as a kind of limit.
+ghost use mathlib.Core.Path.{_≡_};
+ghost use Rattle.kinds.specs.Clock.{clock-model};
+use super::Clock;
+use super::ClockState;
+use super::ClockUse;
+use crate::kind::Kind;
+
+pub impl Kind for Clock as ClockKind {
+    type State = ClockState;
+
+    type Use = ClockUse;
+
+    ghost model = { clock-model };
+
+    fn start(&self) -> ClockState {
+        ClockState {
+            time: u32::from(self.start),
+            shut: false,
+        }
+    }
+
+    fn extend(&self, state: &ClockState, taken: &ClockUse) -> ClockState {
+        let time = state.time.saturating_add(u32::from(taken.travel)).max(u32::from(taken.opens));
+        ClockState {
+            time,
+            shut: state.shut | (time > u32::from(taken.closes)),
+        }
+    }
+
+    fn within(&self, state: &ClockState) -> bool {
+        !state.shut
+    }
+
+    fn covers(&self, a: &ClockState, b: &ClockState) -> bool {
+        (a.time <= b.time) & (b.shut | !a.shut)
+    }
+
+    fn figure(&self, state: &ClockState) -> u32 {
+        state.time
+    }
+}

@@ -1,0 +1,45 @@
+// Any two kinds joined, as a kind of limit.
+ghost use mathlib.Core.Path.{_≡_};
+ghost use Rattle.kinds.specs.Pair.{pair-model};
+use super::Pair;
+use super::PairState;
+use super::PairUse;
+use crate::kind::Kind;
+
+pub impl<A: Kind, B: Kind> Kind for Pair<A, B> as PairKind {
+    type State = PairState<A::State, B::State>;
+
+    type Use = PairUse<A::Use, B::Use>;
+
+    ghost model = { pair-model (A·Kind .model) (B·Kind .model) };
+
+    fn start(&self) -> PairState<A::State, B::State> {
+        PairState {
+            first: self.first.start(),
+            second: self.second.start(),
+        }
+    }
+
+    fn extend(
+        &self,
+        state: &PairState<A::State, B::State>,
+        taken: &PairUse<A::Use, B::Use>,
+    ) -> PairState<A::State, B::State> {
+        PairState {
+            first: self.first.extend(&state.first, &taken.first),
+            second: self.second.extend(&state.second, &taken.second),
+        }
+    }
+
+    fn within(&self, state: &PairState<A::State, B::State>) -> bool {
+        self.first.within(&state.first) & self.second.within(&state.second)
+    }
+
+    fn covers(&self, a: &PairState<A::State, B::State>, b: &PairState<A::State, B::State>) -> bool {
+        self.first.covers(&a.first, &b.first) & self.second.covers(&a.second, &b.second)
+    }
+
+    fn figure(&self, state: &PairState<A::State, B::State>) -> u32 {
+        self.first.figure(&state.first)
+    }
+}
