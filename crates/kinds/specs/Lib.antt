@@ -1,6 +1,9 @@
+pub mod Arrivals
 pub mod Budget
+pub mod Choices
 pub mod Clock
 pub mod Ducts
 pub mod Kinds
 pub mod Pair
+pub mod Passes
 pub mod Stopped

@@ -2,11 +2,13 @@
 ghost use mathlib.Core.Path.{_≡_};
 ghost use Prim.Native.Nat.{_<_};
 ghost use Rattle.kinds.specs.Budget.{budget-model, fault-number, making, made-of, raised};
+ghost use Rattle.kinds.specs.Choices.{WorstCase};
 use super::Budget;
 use super::BudgetFault;
 use super::BudgetState;
 use super::BudgetUse;
 use crate::kind::Kind;
+use crate::kind::state_along;
 
 impl BudgetFault {
     pub fn number(self) -> u16
@@ -26,6 +28,13 @@ impl Budget {
             return Err(BudgetFault::AllowanceAboveEight);
         }
         Ok(Budget { allowance, limit })
+    }
+
+    // What a route comes to when at most as many links as the allowance are at their worst together.
+    pub fn worst_case(&self, uses: &[BudgetUse]) -> BudgetState
+        ensures { λ r. ⌜ WorstCase (now (self .entry)) (now (uses .entry)) r ⌝ }
+    {
+        state_along(self, uses)
     }
 }
 
