@@ -1,4 +1,5 @@
 pub mod Along
+pub mod Arrivals
 pub mod Choices
 pub mod Bits
 pub mod BudgetLaws

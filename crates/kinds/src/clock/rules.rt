@@ -1,10 +1,21 @@
 // Clock as a kind of limit.
 ghost use mathlib.Core.Path.{_≡_};
+ghost use Rattle.kinds.specs.Arrivals.{Arrives};
 ghost use Rattle.kinds.specs.Clock.{clock-model};
 use super::Clock;
 use super::ClockState;
 use super::ClockUse;
 use crate::kind::Kind;
+use crate::kind::state_along;
+
+impl Clock {
+    // When a route arrives, and whether a gate on it was reached too late.
+    pub fn arrival(&self, uses: &[ClockUse]) -> ClockState
+        ensures { λ r. ⌜ Arrives (now (self .entry)) (now (uses .entry)) r ⌝ }
+    {
+        state_along(self, uses)
+    }
+}
 
 pub impl Kind for Clock as ClockKind {
     type State = ClockState;
