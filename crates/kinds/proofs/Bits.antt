@@ -1,9 +1,14 @@
 -- The bits of a number, and numbers as sets of bits. Assumes nothing.
 use mathlib.Core.Path.{_≡_, refl, sym, ap, ap₂, subst, _∙_}
-use Prim.Native.Nat.{ℕ, zero, suc, _+_, _*_, _/_, _%_, _^_, _≤_, zero-le}
+use Prim.Native.Nat.{ℕ, zero, suc, _+_, _*_, _/_, _%_, _^_, _≤_, _<_, zero-le, max}
+use native.Mathlib.Numerals.{add-one}
 use native.Mathlib.Omega.{arith}
-use lib.Bits.{bitAnd, bitOr, and-step, or-step, and-zero-l, or-zero-r}
+use lib.Bits.{bitAnd, bitOr, and-step, or-step, and-zero-l, and-zero-r, or-zero-r}
 use lib.Count.{ones, ones-step}
+use native.Mathlib.Nat.{pow-suc, mul-assoc}
+use Rattle.std.specs.Iters.{counting}
+use Rattle.std.specs.shelf.Lists.{sumBy}
+use Rattle.std.proofs.shelf.Sums.{sumBy-cons}
 
 -- an induction on the halves of a number
 halving-below : (P : ℕ → Type 0) → P 0 → ((n : ℕ) → P (n / 2) → P n) → (k n : ℕ) → n ≤ k → P n
@@ -82,3 +87,68 @@ part-ones =
         let p′ = part-halves a b p in
         let half = ih (b / 2) (p′ .0) in
         rw (ones-step a, ones-step b) (omega arith))
+
+-- the bit of n at place d
+pub bit : ℕ → ℕ → ℕ
+bit n zero = n % 2
+bit n (suc d) = bit (n / 2) d
+
+pub bit-or : (d a b : ℕ) → bit (bitOr a b) d ≡ max (bit a d) (bit b d)
+unfolding bit
+bit-or zero a b = let s = or-step a b in omega arith
+bit-or (suc d) a b =
+    let s = or-step a b in
+    let half : bitOr a b / 2 ≡ bitOr (a / 2) (b / 2) = omega arith in
+    ap (λ n. bit n d) half ∙ bit-or d (a / 2) (b / 2)
+
+pub bit-zero : (d : ℕ) → bit 0 d ≡ 0
+unfolding bit
+bit-zero zero = refl
+bit-zero (suc d) = bit-zero d
+
+pub bit-mask-same : (d : ℕ) → bit (2 ^ d) d ≡ 1
+unfolding bit
+bit-mask-same zero = refl
+bit-mask-same (suc d) = ap (λ n. bit n d) (omega (arith, pow-suc 2 d)) ∙ bit-mask-same d
+
+pub bit-mask-other : (e d : ℕ) → (e ≡ d → ⊥) → bit (2 ^ e) d ≡ 0
+unfolding bit
+bit-mask-other zero zero h = absurd (h refl)
+bit-mask-other zero (suc d) h = bit-zero d
+bit-mask-other (suc e) zero h = omega (arith, pow-suc 2 e)
+bit-mask-other (suc e) (suc d) h = ap (λ n. bit n d) (omega (arith, pow-suc 2 e)) ∙ bit-mask-other e d (λ same. h (ap suc same))
+
+-- n meets the set of d alone in the bit of n at d
+pub and-mask-bit : (d n : ℕ) → bitAnd n (2 ^ d) ≡ bit n d * 2 ^ d
+unfolding bit
+and-mask-bit zero n = let s = and-step n 1 in omega (arith, and-zero-r (n / 2))
+and-mask-bit (suc d) n =
+    let s = and-step n (2 ^ suc d) in
+    let p = pow-suc 2 d in
+    let half : 2 ^ suc d / 2 ≡ 2 ^ d = omega arith in
+    let inner : bitAnd (n / 2) (2 ^ suc d / 2) ≡ bit (n / 2) d * 2 ^ d = ap (bitAnd (n / 2)) half ∙ and-mask-bit d (n / 2) in
+    let doubled : bit (n / 2) d * 2 ^ suc d ≡ bit (n / 2) d * 2 ^ d * 2 = ap (λ m. bit (n / 2) d * m) p ∙ sym (mul-assoc (bit (n / 2) d) (2 ^ d) 2) in
+    omega arith
+
+pub bit-below : (d n : ℕ) → bit n d < 2
+unfolding bit
+bit-below zero n = omega arith
+bit-below (suc d) n = bit-below d (n / 2)
+
+sumBy-later : (f : ℕ → ℕ) (k a : ℕ) → sumBy f (counting (a + 1) k) ≡ sumBy (λ d. f (d + 1)) (counting a k)
+sumBy-later f zero a = refl
+sumBy-later f (suc k) a =
+    sumBy-cons f (a + 1) (counting (a + 1 + 1) k) ∙ ap (λ n. f (a + 1) + n) (sumBy-later f k (a + 1)) ∙ sym (sumBy-cons (λ d. f (d + 1)) a (counting (a + 1) k))
+
+pub sumBy-alike : (f g : ℕ → ℕ) (k a : ℕ) → ((d : ℕ) → d < a + k → f d ≡ g d) → sumBy f (counting a k) ≡ sumBy g (counting a k)
+sumBy-alike f g zero a h = refl
+sumBy-alike f g (suc k) a h =
+    sumBy-cons f a (counting (a + 1) k) ∙ ap₂ _+_ (h a (omega arith)) (sumBy-alike f g k (a + 1) (λ d lt. h d (omega arith))) ∙ sym (sumBy-cons g a (counting (a + 1) k))
+
+pub ones-bits : (k n : ℕ) → n < 2 ^ k → ones n ≡ sumBy (bit n) (counting 0 k)
+unfolding bit ones
+ones-bits zero n lt = let none : n ≡ 0 = omega arith in ap ones none
+ones-bits (suc k) n lt =
+    ones-step n
+    ∙ ap (λ m. n % 2 + m) (ones-bits k (n / 2) (omega (arith, pow-suc 2 k)) ∙ sumBy-alike (bit (n / 2)) (λ d. bit n (d + 1)) k 0 (λ d l. ap (bit n) (sym (add-one d))) ∙ sym (sumBy-later (bit n) k 0))
+    ∙ sym (sumBy-cons (bit n) 0 (counting 1 k))

@@ -5,3 +5,5 @@ pub mod Bits
 pub mod BudgetLaws
 pub mod DuctLaws
 pub mod PairLaws
+pub mod Parts
+pub mod Passes

@@ -1,10 +1,21 @@
 // Duct set as a kind of limit.
 ghost use mathlib.Core.Path.{_≡_};
 ghost use Rattle.kinds.specs.Ducts.{ducts-model};
+ghost use Rattle.kinds.specs.Passes.{Passes};
 use super::DuctState;
 use super::DuctUse;
 use super::Ducts;
 use crate::kind::Kind;
+use crate::kind::state_along;
+
+impl Ducts {
+    // The ducts that a route passes, and whether it passes one twice.
+    pub fn passed(&self, uses: &[DuctUse]) -> DuctState
+        ensures { λ r. ⌜ Passes (now (self .entry)) (now (uses .entry)) r ⌝ }
+    {
+        state_along(self, uses)
+    }
+}
 
 pub impl Kind for Ducts as DuctsKind {
     type State = DuctState;

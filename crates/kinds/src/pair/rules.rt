@@ -1,10 +1,20 @@
 // Any two kinds joined, as a kind of limit.
 ghost use mathlib.Core.Path.{_≡_};
-ghost use Rattle.kinds.specs.Pair.{pair-model};
+ghost use Rattle.kinds.specs.Pair.{pair-model, Parts};
 use super::Pair;
 use super::PairState;
 use super::PairUse;
 use crate::kind::Kind;
+use crate::kind::state_along;
+
+impl<A: Kind, B: Kind> Pair<A, B> {
+    // The state of a route for both kinds at once.
+    pub fn both_along(&self, uses: &[PairUse<A::Use, B::Use>]) -> PairState<A::State, B::State>
+        ensures { λ r. ⌜ Parts (A·Kind .model) (B·Kind .model) (now (self .entry)) (now (uses .entry)) r ⌝ }
+    {
+        state_along(self, uses)
+    }
+}
 
 pub impl<A: Kind, B: Kind> Kind for Pair<A, B> as PairKind {
     type State = PairState<A::State, B::State>;
