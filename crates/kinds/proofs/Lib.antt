@@ -7,3 +7,4 @@ pub mod DuctLaws
 pub mod PairLaws
 pub mod Parts
 pub mod Passes
+pub mod RowsHold

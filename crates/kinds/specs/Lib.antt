@@ -6,4 +6,5 @@ pub mod Ducts
 pub mod Kinds
 pub mod Pair
 pub mod Passes
+pub mod Rows
 pub mod Stopped

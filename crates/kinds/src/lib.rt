@@ -4,6 +4,7 @@ mod clock;
 mod ducts;
 mod kind;
 mod pair;
+mod rows;
 
 pub use budget::Budget;
 pub use budget::BudgetFault;
@@ -24,3 +25,4 @@ pub use pair::Pair;
 pub use pair::PairState;
 pub use pair::PairUse;
 pub use pair::rules::PairKind;
+pub use rows::worked_examples;
