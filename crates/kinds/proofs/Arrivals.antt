@@ -95,8 +95,7 @@ module _ (k : Clock) where
       step us u h =
           let was = along clock-model k us in
           let is = ap (λ s. s .shut) (along-push clock-model k us u) in
-          let told = time-push us u (time-told us) in
-          (
+          let told = time-push us u (time-told us) in (
             λ e.
                 ⊎-elim
                 (λ before. missed-more us u (h .0 before))
@@ -107,9 +106,9 @@ module _ (k : Clock) where
                 ∙ ⊎-elim
                 (λ before. or-left (was .shut) (ltb (u .closes) (next-time was u)) (h .1 (i, before, subst (λ X. X) (late-before us u i before) late)))
                 (λ at.
-                    let same : i ≡ length us = omega (arith, length-push us u) in
-                    let over : u .closes < arrival k (us ++ u ∷ []) = subst (λ X. X) (late-last us u) (subst (Late k (us ++ u ∷ [])) same late) in
-                    or-right (was .shut) (ltb (u .closes) (next-time was u)) (lt-ltb _ _ (omega (arith, u .narrow))))
+                let same : i ≡ length us = omega (arith, length-push us u) in
+                let over : u .closes < arrival k (us ++ u ∷ []) = subst (λ X. X) (late-last us u) (subst (Late k (us ++ u ∷ [])) same late) in
+                or-right (was .shut) (ltb (u .closes) (next-time was u)) (lt-ltb _ _ (omega (arith, u .narrow))))
                 (cases-lt i (length us)),
           )
 

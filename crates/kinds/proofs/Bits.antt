@@ -32,9 +32,9 @@ part-chain =
     (λ a. (b c : ℕ) → bitAnd a b ≡ a → bitAnd b c ≡ b → bitAnd a c ≡ a)
     (λ b c p q. and-zero-l c)
     (λ a ih b c p q.
-        let p′ = part-halves a b p in
-        let q′ = part-halves b c q in
-        part-from-halves a c (ih (b / 2) (c / 2) (p′ .0) (q′ .0)) (omega arith))
+    let p′ = part-halves a b p in
+    let q′ = part-halves b c q in
+    part-from-halves a c (ih (b / 2) (c / 2) (p′ .0) (q′ .0)) (omega arith))
 
 pub part-or : (a m : ℕ) → bitAnd a (bitOr a m) ≡ a
 part-or =
@@ -42,9 +42,9 @@ part-or =
     (λ a. (m : ℕ) → bitAnd a (bitOr a m) ≡ a)
     (λ m. and-zero-l (bitOr 0 m))
     (λ a ih m.
-        let s = or-step a m in
-        let half : bitOr a m / 2 ≡ bitOr (a / 2) (m / 2) = omega arith in
-        part-from-halves a (bitOr a m) (ap (bitAnd (a / 2)) half ∙ ih (m / 2)) (omega arith))
+    let s = or-step a m in
+    let half : bitOr a m / 2 ≡ bitOr (a / 2) (m / 2) = omega arith in
+    part-from-halves a (bitOr a m) (ap (bitAnd (a / 2)) half ∙ ih (m / 2)) (omega arith))
 
 -- one more bit on both sides keeps a part a part
 pub part-or-both : (a b m : ℕ) → bitAnd a b ≡ a → bitAnd (bitOr a m) (bitOr b m) ≡ bitOr a m
@@ -56,12 +56,12 @@ part-or-both a b m = joint m a b
         (λ m. (a b : ℕ) → bitAnd a b ≡ a → bitAnd (bitOr a m) (bitOr b m) ≡ bitOr a m)
         (λ a b p. rw (or-zero-r a, or-zero-r b) p)
         (λ m ih a b p.
-            let p′ = part-halves a b p in
-            let s = or-step a m in
-            let t = or-step b m in
-            let left : bitOr a m / 2 ≡ bitOr (a / 2) (m / 2) = omega arith in
-            let right : bitOr b m / 2 ≡ bitOr (b / 2) (m / 2) = omega arith in
-            part-from-halves (bitOr a m) (bitOr b m) (ap₂ bitAnd left right ∙ ih (a / 2) (b / 2) (p′ .0) ∙ sym left) (omega arith))
+        let p′ = part-halves a b p in
+        let s = or-step a m in
+        let t = or-step b m in
+        let left : bitOr a m / 2 ≡ bitOr (a / 2) (m / 2) = omega arith in
+        let right : bitOr b m / 2 ≡ bitOr (b / 2) (m / 2) = omega arith in
+        part-from-halves (bitOr a m) (bitOr b m) (ap₂ bitAnd left right ∙ ih (a / 2) (b / 2) (p′ .0) ∙ sym left) (omega arith))
 
 -- a part of what misses m misses m
 pub part-misses : (a b m : ℕ) → bitAnd a b ≡ a → bitAnd b m ≡ 0 → bitAnd a m ≡ 0
@@ -70,12 +70,12 @@ part-misses =
     (λ a. (b m : ℕ) → bitAnd a b ≡ a → bitAnd b m ≡ 0 → bitAnd a m ≡ 0)
     (λ b m p q. and-zero-l m)
     (λ a ih b m p q.
-        let p′ = part-halves a b p in
-        let s = and-step a m in
-        let t = and-step b m in
-        let rest : bitAnd (b / 2) (m / 2) ≡ 0 = omega arith in
-        let half = ih (b / 2) (m / 2) (p′ .0) rest in
-        omega arith)
+    let p′ = part-halves a b p in
+    let s = and-step a m in
+    let t = and-step b m in
+    let rest : bitAnd (b / 2) (m / 2) ≡ 0 = omega arith in
+    let half = ih (b / 2) (m / 2) (p′ .0) rest in
+    omega arith)
 
 pub part-ones : (a b : ℕ) → bitAnd a b ≡ a → ones a ≤ ones b
 unfolding ones
@@ -84,9 +84,9 @@ part-ones =
     (λ a. (b : ℕ) → bitAnd a b ≡ a → ones a ≤ ones b)
     (λ b p. zero-le)
     (λ a ih b p.
-        let p′ = part-halves a b p in
-        let half = ih (b / 2) (p′ .0) in
-        rw (ones-step a, ones-step b) (omega arith))
+    let p′ = part-halves a b p in
+    let half = ih (b / 2) (p′ .0) in
+    rw (ones-step a, ones-step b) (omega arith))
 
 -- the bit of n at place d
 pub bit : ℕ → ℕ → ℕ

@@ -55,9 +55,9 @@ module _ (k : Budget) where
   filled s u xs long below above =
       fill-by-all (λ i. cond (leb i (k .allowance)) (raised s u i) 0) xs 9 0 long
       (λ i lt.
-          cond-both (leb i (k .allowance)) (raised s u i) 0 (λ w. getD xs i 0 ≡ w)
-          (λ e. below i (omega (arith, leb-true _ _ e)))
-          (λ e. above i (omega (arith, leb-false _ _ e))))
+      cond-both (leb i (k .allowance)) (raised s u i) 0 (λ w. getD xs i 0 ≡ w)
+      (λ e. below i (omega (arith, leb-true _ _ e)))
+      (λ e. above i (omega (arith, leb-false _ _ e))))
 
 raised-below : (a b : BudgetState) (u : BudgetUse) (g : ℕ) → Below g a b → raised a u g ≤ raised b u g
 unfolding Below

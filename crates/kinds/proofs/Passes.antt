@@ -75,9 +75,9 @@ twice-cases ds e (i, j, lt, inside, low, same) =
     ⊎-elim
     (λ before. inl (i, j, lt, before, omega arith, sym at-i ∙ same ∙ getD-append-left ds (e ∷ []) 0 j before))
     (λ after.
-        let last : j ≡ length ds = omega arith in
-        let is : getD ds i 0 ≡ e = sym at-i ∙ same ∙ ap (λ n. getD (ds ++ e ∷ []) n 0) last ∙ at-end in
-        inr (omega arith, (i, omega arith, is)))
+    let last : j ≡ length ds = omega arith in
+    let is : getD ds i 0 ≡ e = sym at-i ∙ same ∙ ap (λ n. getD (ds ++ e ∷ []) n 0) last ∙ at-end in
+    inr (omega arith, (i, omega arith, is)))
     (cases-lt j (length ds))
 
 or-bit : (x y : Bool) → max (cond x 1 0) (cond y 1 0) ≡ cond (x || y) 1 0
@@ -149,8 +149,8 @@ module _ (k : Ducts) where
   holds =
       from-end (λ us. Holds (ducts-of us) (along ducts-model k us))
       (λ us u h.
-          subst (λ ds. Holds ds (along ducts-model k (us ++ u ∷ []))) (sym (map-push (λ v. v .duct) us u))
-          (subst (Holds (ducts-of us ++ u .duct ∷ [])) (sym (along-push ducts-model k us u)) (holds-step (ducts-of us) (along ducts-model k us) (u .duct) h)))
+      subst (λ ds. Holds ds (along ducts-model k (us ++ u ∷ []))) (sym (map-push (λ v. v .duct) us u))
+      (subst (Holds (ducts-of us ++ u .duct ∷ [])) (sym (along-push ducts-model k us u)) (holds-step (ducts-of us) (along ducts-model k us) (u .duct) h)))
       (record {
         small = pow-pos 64;
         bits = λ d lt. bit-zero d;

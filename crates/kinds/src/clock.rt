@@ -4,14 +4,14 @@ ghost use Prim.Native.Nat.{_^_, _<_};
 pub mod rules;
 
 // A booking's start time, in microseconds.
-#[derive(Clone, Copy, Debug)]
+#[derive(Clone, Copy)]
 pub struct Clock {
     pub start: u16,
     ghost narrow: { start < 2 ^ 16 },
 }
 
 // A link with a gate: how long it takes, and when its gate opens and closes.
-#[derive(Clone, Copy, Debug)]
+#[derive(Clone, Copy)]
 pub struct ClockUse {
     pub travel: u16,
     pub opens: u16,
@@ -20,7 +20,7 @@ pub struct ClockUse {
 }
 
 // The time of arrival, and whether a gate was reached after it had closed.
-#[derive(Clone, Copy, Debug)]
+#[derive(Clone, Copy)]
 pub struct ClockState {
     pub time: u32,
     pub shut: bool,

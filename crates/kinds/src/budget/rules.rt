@@ -49,7 +49,9 @@ impl BudgetState {
         if g == 0 {
             return spared;
         }
-        self.worst[g - 1].saturating_add(nominal + u32::from(taken.extra)).max(spared)
+        self.worst[g - 1]
+            .saturating_add(nominal + u32::from(taken.extra))
+            .max(spared)
     }
 }
 
@@ -77,7 +79,8 @@ pub impl Kind for Budget as BudgetKind {
     }
 
     fn covers(&self, a: &BudgetState, b: &BudgetState) -> bool {
-        for g in 0..usize::from(self.allowance) + 1 {
+        let count = usize::from(self.allowance) + 1;
+        for g in 0..count {
             if a.worst[g] > b.worst[g] {
                 return false;
             }

@@ -32,7 +32,10 @@ pub impl Kind for Clock as ClockKind {
     }
 
     fn extend(&self, state: &ClockState, taken: &ClockUse) -> ClockState {
-        let time = state.time.saturating_add(u32::from(taken.travel)).max(u32::from(taken.opens));
+        let time = state
+            .time
+            .saturating_add(u32::from(taken.travel))
+            .max(u32::from(taken.opens));
         ClockState {
             time,
             shut: state.shut | (time > u32::from(taken.closes)),
