@@ -1,0 +1,3 @@
+pub mod Splits
+pub mod Readings
+pub mod Laws

@@ -1,0 +1,4 @@
+pub mod Split
+pub mod Laws
+pub mod Reading
+pub mod Steps
