@@ -1,0 +1,3 @@
+pub mod Offers
+pub mod Storing
+pub mod Trying

@@ -1,0 +1,6 @@
+// What a search answers.
+#[derive(Clone, Copy)]
+pub enum SearchFault {
+    Full,
+    NoRoute,
+}
