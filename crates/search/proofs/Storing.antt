@@ -136,3 +136,8 @@ stores-on table ls mid count more answer left h grows then =
     drops-alike i n xs ys le e =
         let split : i + (n - i) ≡ n = omega arith in
         ap (λ j. drop j xs) (sym split) ∙ sym (drop-drop (n - i) i xs) ∙ ap (drop (n - i)) e ∙ drop-drop (n - i) i ys ∙ ap (λ j. drop j ys) split
+
+pub making-fits : {X : Type 0} (ls old : List X) (count : ℕ) (table : List X) → Stores ls old (Some count) table → (count ≡ length ls) × (count ≤ length table) × (take count table ≡ ls)
+making-fits ls old count table h =
+    let k = kept ls old count table h in
+    (k .counts, omega (arith, k .fits, k .long), k .front)

@@ -64,10 +64,14 @@ module _ {K S U : Type 0} (m : Model K S U) (q : Query K U) where
   abbrev pub takes : ℕ → Label S → List (Label S) → List (Label S)
   takes n l ls = cond (eqb (l .node) (q .target) || leb (q .hop-limit) (l .hops)) ls (tries m (q .kind) (q .flags) n l 0 (q .links) ls)
 
+  -- label n is taken, if there is one
+  abbrev pub turn : ℕ → List (Label S) → List (Label S)
+  turn n ls = cond (ltb n (length ls)) (takes n (getD ls n label0) ls) ls
+
   -- the labels when the first n of them have been taken, in order of number
   unfoldable pub after : ℕ → List (Label S)
   after zero = first
-  after (suc n) = cond (ltb n (length (after n))) (takes n (getD (after n) n label0) (after n)) (after n)
+  after (suc n) = turn n (after n)
 
   -- how many labels have fewer than h hops
   unfoldable pub shorter : ℕ → ℕ

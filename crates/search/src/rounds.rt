@@ -1,11 +1,13 @@
 // Makes the labels of a search, round by round. `None` says that the table has no place for a label.
 ghost use mathlib.Core.Path.{_≡_};
-ghost use mathlib.Core.Bool.{false, not, cond, _&&_};
-ghost use Prim.Native.Nat.{_^_, _≤_, _<_};
+ghost use mathlib.Core.Bool.{Bool, false, not, cond, _&&_};
+ghost use mathlib.Core.List.{List};
+ghost use Prim.Native.Nat.{ℕ, _≤_, _<_};
 ghost use lib.ListN.{length, getD, take};
 ghost use Rattle.std.specs.declared.option.Option.the-variants.{Some, None};
-ghost use Rattle.search.specs.Rule.{is-open, candidate, beats, beaten, offered, first, tried, tries, takes, made, asked, Stores};
+ghost use Rattle.search.specs.Rule.{is-open, candidate, beats, beaten, offered, first, tried, tries, turn, made, asked, Stores};
 ghost use Rattle.search.specs.declared.label.Label.{Label};
+ghost use Rattle.search.specs.declared.label.Link.{Link};
 use crate::label::Label;
 use crate::label::Link;
 use kinds::Kind;
@@ -120,6 +122,72 @@ fn try_links<K: Kind>(
 {
     for (i, link) in links.iter().enumerate() {
         count = try_link(kind, flags, i, link, next, count, labels)?;
+    }
+    Some(count)
+}
+
+// Takes label `next`, if there is one; one at the target, or with as many hops as the hop limit, is passed over.
+fn take_label<K: Kind>(
+    kind: &K,
+    links: &[Link<K::Use>],
+    flags: &[bool],
+    target: u16,
+    hop_limit: u16,
+    next: usize,
+    count: usize,
+    labels: &mut [Label<K::State>],
+) -> Option<usize>
+    requires { ⌜ count ≤ length (now labels) ⌝ }
+    ensures { λ r. ⌜ ((source : ℕ) → Stores (turn (K·Kind .model) (asked (now (kind .entry)) (now (links .entry)) (now (flags .entry)) source target «hop_limit») next (take count (now (labels .entry)))) (now (labels .entry)) r (now (labels .exit))) ⌝ }
+{
+    if next >= count {
+        return Some(count);
+    }
+    if labels[next].node == target {
+        return Some(count);
+    }
+    if labels[next].hops >= hop_limit {
+        return Some(count);
+    }
+    try_links(kind, links, flags, next, count, labels)
+}
+
+// Makes label 0, the source, if the start state is within.
+fn make_first<K: Kind>(kind: &K, source: u16, labels: &mut [Label<K::State>]) -> Option<usize>
+    ensures { λ r. ⌜ ((links : List (Link K·Use)) (flags : List Bool) (target «hop_limit» : ℕ) → Stores (first (K·Kind .model) (asked (now (kind .entry)) links flags source target «hop_limit»)) (now (labels .entry)) r (now (labels .exit))) ⌝ }
+{
+    let state = kind.start();
+    if !kind.within(&state) {
+        return Some(0);
+    }
+    if labels.is_empty() {
+        return None;
+    }
+    labels[0] = Label {
+        node: source,
+        hops: 0,
+        state,
+        from: 0,
+        link: 0,
+    };
+    Some(1)
+}
+
+// Makes all labels of the rule, in the table from its start.
+pub fn make_labels<K: Kind>(
+    kind: &K,
+    links: &[Link<K::Use>],
+    flags: &[bool],
+    source: u16,
+    target: u16,
+    hop_limit: u16,
+    labels: &mut [Label<K::State>],
+) -> Option<usize>
+    ensures { λ r. ⌜ Stores (made (K·Kind .model) (asked (now (kind .entry)) (now (links .entry)) (now (flags .entry)) source target «hop_limit»)) (now (labels .entry)) r (now (labels .exit)) ⌝ }
+{
+    let mut count = make_first(kind, source, labels)?;
+    for next in 0..labels.len() {
+        count = take_label(kind, links, flags, target, hop_limit, next, count, labels)?;
     }
     Some(count)
 }
