@@ -1,7 +1,11 @@
+pub mod Coverage
 pub mod Making
 pub mod Offers
 pub mod Offspring
 pub mod Order
 pub mod Storing
+pub mod Tree
 pub mod Trying
 pub mod Turns
+pub mod Walks
+pub mod WayBack

@@ -6,11 +6,11 @@ use mathlib.Core.Logic.{⊎-elim}
 use Prim.Native.Nat.{ℕ, zero, suc, _+_, _≤_, _<_}
 use native.Mathlib.Omega.{arith}
 use lib.Dec.{eqb, leb}
-use lib.ListN.{length, getD, drop, length-drop}
+use lib.ListN.{length, getD, take, drop, length-drop, take-append-drop}
 use Rattle.std.specs.shelf.Lists.{All}
 use Rattle.std.proofs.shelf.Lists.{drop-more, drop-all, getD-default}
 use Rattle.std.proofs.shelf.Elements.{all-weaker, all-append}
-use Rattle.std.proofs.shelf.Tests.{cases-bool, cond-true, cond-false, and-parts, and-from, or-parts, or-left, or-right, or-cases, and-right, not-true, not-from-true, not-from-false, eqb-true, eq-eqb, le-leb, both-ways, cases-lt}
+use Rattle.std.proofs.shelf.Tests.{cases-bool, cond-true, cond-false, and-parts, and-from, or-parts, or-left, or-right, or-cases, and-right, not-true, not-from-true, not-from-false, eqb-true, eq-eqb, le-leb, leb-true, both-ways, cases-lt}
 use Rattle.kinds.specs.Kinds.{Model, Laws}
 use Rattle.search.specs.Rule.{is-open, candidate, beats, beaten, offered, tried, tries}
 use Rattle.search.specs.declared.label.Label.{Label}
@@ -18,6 +18,16 @@ use Rattle.search.specs.declared.label.Link.{Link}
 use Rattle.search.proofs.Offers.{tried-over, tries-grows}
 
 module _ {K S U : Type 0} (m : Model K S U) (k : K) where
+  pub beats-parts : (l c : Label S) → beats m k l c ≡ true → (l .node ≡ c .node) × (l .hops ≤ c .hops) × (m .covers k (l .state) (c .state) ≡ true)
+  beats-parts l c h =
+      let outer = and-parts (eqb (l .node) (c .node) && leb (l .hops) (c .hops)) (m .covers k (l .state) (c .state)) h in
+      let inner = and-parts (eqb (l .node) (c .node)) (leb (l .hops) (c .hops)) (outer .0) in
+      (eqb-true _ _ (inner .0), leb-true _ _ (inner .1), outer .1)
+
+  pub beats-from : (l c : Label S) → l .node ≡ c .node → l .hops ≤ c .hops → m .covers k (l .state) (c .state) ≡ true → beats m k l c ≡ true
+  beats-from l c node hops covers =
+      and-from (eqb (l .node) (c .node) && leb (l .hops) (c .hops)) (m .covers k (l .state) (c .state)) (and-from (eqb (l .node) (c .node)) (leb (l .hops) (c .hops)) (eq-eqb _ _ node) (le-leb _ _ hops)) covers
+
   pub beaten-front : (c : Label S) (xs ys : List (Label S)) → beaten m k c (xs ++ ys) ≡ false → beaten m k c xs ≡ false
   beaten-front c [] ys h = refl
   beaten-front c (x ∷ xs) ys h =
@@ -43,7 +53,7 @@ module _ {K S U : Type 0} (m : Model K S U) (k : K) where
 
   pub beaten-last : (laws : Laws m) (c : Label S) (xs : List (Label S)) → beaten m k c (xs ++ c ∷ []) ≡ true
   beaten-last laws c [] =
-      or-left (beats m k c c) false (and-from (eqb (c .node) (c .node) && leb (c .hops) (c .hops)) (m .covers k (c .state) (c .state)) (and-from (eqb (c .node) (c .node)) (leb (c .hops) (c .hops)) (eq-eqb _ _ refl) (le-leb _ _ (omega arith))) (laws .itself k (c .state)))
+      or-left (beats m k c c) false (beats-from c c refl (omega arith) (laws .itself k (c .state)))
   beaten-last laws c (x ∷ xs) = or-right (beats m k x c) (beaten m k c (xs ++ c ∷ [])) (beaten-last laws c xs)
 
 -- c was made of label n, which is l, when ls were there
@@ -69,18 +79,18 @@ module _ {K S U : Type 0} (m : Model K S U) (k : K) (flags : List Bool) (n : ℕ
   one all i link ls lt read =
       ⊎-elim
       (λ tries-it.
-          let parts = and-parts _ _ tries-it in
-          let c = candidate m k n l i link in
-          ⊎-elim
-          (λ keeps.
-              let kept = and-parts _ _ keeps in
-              record {
-                more = c ∷ [];
-                is = cond-true _ _ _ tries-it ∙ cond-true _ _ _ keeps;
-                each = (record { number = i; link = link; inside = lt; read = read; opened = parts .0; starts = eqb-true _ _ (parts .1); is = refl; within = kept .0; unbeaten = not-true _ (kept .1) }, tt);
-              })
-          (λ drops. record { more = []; is = cond-true _ _ _ tries-it ∙ cond-false _ _ _ drops ∙ sym (append-nil ls); each = tt })
-          (cases-bool (m .within k (c .state) && not (beaten m k c ls))))
+      let parts = and-parts _ _ tries-it in
+      let c = candidate m k n l i link in
+      ⊎-elim
+      (λ keeps.
+      let kept = and-parts _ _ keeps in
+      record {
+        more = c ∷ [];
+        is = cond-true _ _ _ tries-it ∙ cond-true _ _ _ keeps;
+        each = (record { number = i; link = link; inside = lt; read = read; opened = parts .0; starts = eqb-true _ _ (parts .1); is = refl; within = kept .0; unbeaten = not-true _ (kept .1) }, tt);
+      })
+      (λ drops. record { more = []; is = cond-true _ _ _ tries-it ∙ cond-false _ _ _ drops ∙ sym (append-nil ls); each = tt })
+      (cases-bool (m .within k (c .state) && not (beaten m k c ls))))
       (λ skips. record { more = []; is = cond-false _ _ _ skips ∙ sym (append-nil ls); each = tt })
       (cases-bool (is-open flags i && eqb (link .tail) (l .node)))
 
@@ -139,14 +149,17 @@ module _ {K S U : Type 0} (m : Model K S U) (k : K) (flags : List Bool) (n : ℕ
         ⊎-elim
         (λ later. closed all rest (i + 1) (tried m k flags n l i x ls) next j link (omega arith) lt read o t w)
         (λ ge.
-            let same : j ≡ i = omega arith in
-            let link-is : link ≡ x = read ∙ ap (λ a. getD all a link) same ∙ getD-default all i link x here ∙ sym first in
-            let over : tried m k flags n l i x ls ≡ offered m k (candidate m k n l j link) ls = ap₂ (λ a b. tried m k flags n l a b ls) (sym same) (sym link-is) ∙ tried-over m k flags n l j link ls o t in
-            let rest-grows = tries-grows m k flags n l (i + 1) rest (tried m k flags n l i x ls) in
-            subst (λ y. beaten m k (candidate m k n l j link) y ≡ true) (sym (rest-grows .is))
-            (beaten-more m k (candidate m k n l j link) (tried m k flags n l i x ls) (rest-grows .more)
-            (subst (λ y. beaten m k (candidate m k n l j link) y ≡ true) (sym over) (offered-beats (candidate m k n l j link) ls w))))
+        let same : j ≡ i = omega arith in
+        let link-is : link ≡ x = read ∙ ap (λ a. getD all a link) same ∙ getD-default all i link x here ∙ sym first in
+        let over : tried m k flags n l i x ls ≡ offered m k (candidate m k n l j link) ls = ap₂ (λ a b. tried m k flags n l a b ls) (sym same) (sym link-is) ∙ tried-over m k flags n l j link ls o t in
+        let rest-grows = tries-grows m k flags n l (i + 1) rest (tried m k flags n l i x ls) in
+        subst (λ y. beaten m k (candidate m k n l j link) y ≡ true) (sym (rest-grows .is))
+        (beaten-more m k (candidate m k n l j link) (tried m k flags n l i x ls) (rest-grows .more)
+        (subst (λ y. beaten m k (candidate m k n l j link) y ≡ true) (sym over) (offered-beats (candidate m k n l j link) ls w))))
         (cases-lt i j)
 
     pub tries-closed : (all : List (Link U)) (ls : List (Label S)) (j : ℕ) (link : Link U) → j < length all → link ≡ getD all j link → is-open flags j ≡ true → link .tail ≡ l .node → m .within k (candidate m k n l j link .state) ≡ true → beaten m k (candidate m k n l j link) (tries m k flags n l 0 all ls) ≡ true
     tries-closed all ls j link lt read o t w = closed all all 0 ls refl j link (omega arith) lt read o t w
+
+  pub weaken-to : (all : List (Link U)) (ls : List (Label S)) (n′ : ℕ) (c : Label S) → Made m k flags all n l ls c → Made m k flags all n l (take n′ ls) c
+  weaken-to all ls n′ c h = weaken all (take n′ ls) (drop n′ ls) c (subst (λ x. Made m k flags all n l x c) (sym (take-append-drop n′ ls)) h)

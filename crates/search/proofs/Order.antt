@@ -75,14 +75,14 @@ module _ {K S U : Type 0} (m : Model K S U) (q : Query K U) where
       passed false =
           let (more, is, each) = tries-adds m (q .kind) (q .flags) n l (q .links) ls in
           λ i le lt.
-              ap (λ x. getD x i (label0 m q) .hops) is
-              ∙ ⊎-elim
-              (λ old. ap (λ c. c .hops) (getD-append-left ls more (label0 m q) i old) ∙ level i le old)
-              (λ new.
-                  let long = ap length is ∙ length-append ls more in
-                  let made-here = all-getD (Made m (q .kind) (q .flags) (q .links) n l ls) more (i - length ls) (label0 m q) (omega arith) each in
-                  ap (λ c. c .hops) (getD-append-right ls more (length ls) i (label0 m q) refl new) ∙ ap (λ c. c .hops) (made-here .is) ∙ ap (λ a. a + 1) hops)
-              (cases-lt i (length ls))
+          ap (λ x. getD x i (label0 m q) .hops) is
+          ∙ ⊎-elim
+          (λ old. ap (λ c. c .hops) (getD-append-left ls more (label0 m q) i old) ∙ level i le old)
+          (λ new.
+          let long = ap length is ∙ length-append ls more in
+          let made-here = all-getD (Made m (q .kind) (q .flags) (q .links) n l ls) more (i - length ls) (label0 m q) (omega arith) each in
+          ap (λ c. c .hops) (getD-append-right ls more (length ls) i (label0 m q) refl new) ∙ ap (λ c. c .hops) (made-here .is) ∙ ap (λ a. a + 1) hops)
+          (cases-lt i (length ls))
 
   block : (s h : ℕ) → Level (after m q s) s h → (i : ℕ) → s + i ≤ length (after m q s) → Level (after m q (s + i)) (length (after m q s)) (h + 1)
   block s h level zero le = λ j from lt. absurd (let same : length (after m q (s + 0)) ≡ length (after m q s) = ap (λ n. length (after m q n)) (omega arith) in omega arith)
@@ -109,7 +109,7 @@ module _ {K S U : Type 0} (m : Model K S U) (q : Query K U) where
       let fits = shorter-fits h in
       let whole : s + (e - s) ≡ e = omega arith in
       λ i le lt.
-          subst (λ n. Level (after m q n) e (h + 1)) whole (block s h (levels h) (e - s) (omega arith)) i le lt ∙ omega arith
+      subst (λ n. Level (after m q n) e (h + 1)) whole (block s h (levels h) (e - s) (omega arith)) i le lt ∙ omega arith
 
   -- past the last round nothing changes
   still : (i : ℕ) → after m q (shorter m q (q .hop-limit) + i) ≡ made m q
@@ -121,8 +121,8 @@ module _ {K S U : Type 0} (m : Model K S U) (q : Query K U) where
       ap (after m q) (omega arith)
       ∙ ⊎-elim
       (λ lt.
-          let hops : getD (after m q n) n (label0 m q) .hops ≡ q .hop-limit = ap (λ ls. getD ls n (label0 m q) .hops) same ∙ levels (q .hop-limit) n (omega arith) (omega (arith, ap length same)) in
-          after-next n lt ∙ cond-true _ _ _ (or-right (eqb (getD (after m q n) n (label0 m q) .node) (q .target)) (leb (q .hop-limit) (getD (after m q n) n (label0 m q) .hops)) (le-leb _ _ (omega arith))))
+      let hops : getD (after m q n) n (label0 m q) .hops ≡ q .hop-limit = ap (λ ls. getD ls n (label0 m q) .hops) same ∙ levels (q .hop-limit) n (omega arith) (omega (arith, ap length same)) in
+      after-next n lt ∙ cond-true _ _ _ (or-right (eqb (getD (after m q n) n (label0 m q) .node) (q .target)) (leb (q .hop-limit) (getD (after m q n) n (label0 m q) .hops)) (le-leb _ _ (omega arith))))
       (λ le. after-none n le)
       (cases-lt n (length (after m q n)))
       ∙ same

@@ -75,15 +75,15 @@ kept ls table count left h =
     ⊎-elim
     (λ over. absurd (some-none (h .count ∙ counted-full table ls over)))
     (λ le.
-        let same : count ≡ length ls = some-same (h .count ∙ counted-fits table ls le) in
-        let is : left ≡ ls ++ drop (length ls) table = h .places ∙ stored-fits table ls le in
-        record {
-          counts = same;
-          fits = omega arith;
-          front = ap (take count) is ∙ take-at ls (drop (length ls) table) count (sym same);
-          rest = ap (drop count) is ∙ drop-at ls (drop (length ls) table) count (sym same) ∙ ap (λ n. drop n table) (sym same);
-          long = ap length is ∙ length-append ls (drop (length ls) table) ∙ omega (arith, length-drop (length ls) table);
-        })
+    let same : count ≡ length ls = some-same (h .count ∙ counted-fits table ls le) in
+    let is : left ≡ ls ++ drop (length ls) table = h .places ∙ stored-fits table ls le in
+    record {
+      counts = same;
+      fits = omega arith;
+      front = ap (take count) is ∙ take-at ls (drop (length ls) table) count (sym same);
+      rest = ap (drop count) is ∙ drop-at ls (drop (length ls) table) count (sym same) ∙ ap (λ n. drop n table) (sym same);
+      long = ap length is ∙ length-append ls (drop (length ls) table) ∙ omega (arith, length-drop (length ls) table);
+    })
     (cases-lt (length table) (length ls))
   where
     some-none : {n : ℕ} → Some n ≡ None → ⊥

@@ -47,7 +47,12 @@ fn is_beaten<K: Kind>(kind: &K, label: &Label<K::State>, labels: &[Label<K::Stat
 }
 
 // Whether a label is not within, or is beaten by one of the first `count`.
-fn is_dropped<K: Kind>(kind: &K, label: &Label<K::State>, count: usize, labels: &[Label<K::State>]) -> bool
+fn is_dropped<K: Kind>(
+    kind: &K,
+    label: &Label<K::State>,
+    count: usize,
+    labels: &[Label<K::State>],
+) -> bool
     requires { ⌜ count ≤ length (now labels) ⌝ }
     ensures { λ r. ⌜ r ≡ not (K·Kind .model .within (now (kind .entry)) (now (label .entry) .state) && not (beaten (K·Kind .model) (now (kind .entry)) (now (label .entry)) (take count (now (labels .entry))))) ⌝ }
 {
@@ -58,7 +63,12 @@ fn is_dropped<K: Kind>(kind: &K, label: &Label<K::State>, count: usize, labels: 
 }
 
 // Stores a label that is not dropped.
-fn offer<K: Kind>(kind: &K, label: &Label<K::State>, count: usize, labels: &mut [Label<K::State>]) -> Option<usize>
+fn offer<K: Kind>(
+    kind: &K,
+    label: &Label<K::State>,
+    count: usize,
+    labels: &mut [Label<K::State>],
+) -> Option<usize>
     requires { ⌜ count ≤ length (now labels) ⌝ }
     ensures { λ r. ⌜ Stores (offered (K·Kind .model) (now (kind .entry)) (now (label .entry)) (take count (now (labels .entry)))) (now (labels .entry)) r (now (labels .exit)) ⌝ }
 {
@@ -73,7 +83,13 @@ fn offer<K: Kind>(kind: &K, label: &Label<K::State>, count: usize, labels: &mut 
 }
 
 // What label `next` gives over a link.
-fn step_over<K: Kind>(kind: &K, number: u16, link: &Link<K::Use>, next: usize, labels: &[Label<K::State>]) -> Label<K::State>
+fn step_over<K: Kind>(
+    kind: &K,
+    number: u16,
+    link: &Link<K::Use>,
+    next: usize,
+    labels: &[Label<K::State>],
+) -> Label<K::State>
     requires { ⌜ next < length (now labels) ⌝ ∗ ⌜ ((d : Label K·State) → getD (now labels) next d .hops < 65535) ⌝ }
     ensures { λ r. ⌜ ((d : Label K·State) → r ≡ candidate (K·Kind .model) (now (kind .entry)) next (getD (now (labels .entry)) next d) number (now (link .entry))) ⌝ }
 {
