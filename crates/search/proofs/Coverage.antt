@@ -28,9 +28,9 @@ module _ {K S U : Type 0} (m : Model K S U) (laws : Laws m) (q : Query K U) wher
       let same : at m q (made m q) j ≡ at m q (after m q j) j = grows-getD (made-grows m q j) j (label0 m q) inside-now in
       let c = candidate m (q .kind) j (at m q (made m q) j) i l in
       let next : after m q (suc j) ≡ tries m (q .kind) (q .flags) j (at m q (made m q) j) 0 (q .links) (after m q j) =
-              after-next m q j inside-now
-              ∙ cond-false _ _ _ (or-from _ _ (ne-eqb _ _ (λ e. away (ap (λ x. x .node) same ∙ e))) (lt-leb _ _ (subst (λ x. x .hops < q .hop-limit) same below)))
-              ∙ ap (λ x. tries m (q .kind) (q .flags) j x 0 (q .links) (after m q j)) (sym same) in
+      after-next m q j inside-now
+      ∙ cond-false _ _ _ (or-from _ _ (ne-eqb _ _ (λ e. away (ap (λ x. x .node) same ∙ e))) (lt-leb _ _ (subst (λ x. x .hops < q .hop-limit) same below)))
+      ∙ ap (λ x. tries m (q .kind) (q .flags) j x 0 (q .links) (after m q j)) (sym same) in
       let there = tries-closed m (q .kind) (q .flags) j (at m q (made m q) j) laws (q .links) (after m q j) i l inside read o t w in
       let grown = made-grows m q (suc j) in
       subst (λ x. beaten m (q .kind) c x ≡ true) (sym (grown .is))

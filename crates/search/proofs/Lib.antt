@@ -1,8 +1,10 @@
+pub mod Chosen
 pub mod Coverage
 pub mod Making
 pub mod Offers
 pub mod Offspring
 pub mod Order
+pub mod Promised
 pub mod Storing
 pub mod Tree
 pub mod Trying

@@ -2,14 +2,15 @@
 use mathlib.Core.Path.{_≡_, refl, sym, ap, _∙_}
 use mathlib.Core.Bool.{Bool, true, false, not, cond, _&&_, _||_}
 use mathlib.Core.List.{List, [], _∷_, _++_, append-nil, append-assoc}
+use mathlib.Core.Logic.{⊎-elim}
 use Prim.Native.Nat.{ℕ, _+_, _≤_, _<_}
 use native.Mathlib.Omega.{arith}
 use lib.Dec.{eqb}
 use lib.ListN.{length, getD, take, drop, length-append}
 use Rattle.std.specs.declared.option.Option.{Option}
 use Rattle.std.specs.declared.option.Option.the-variants.{Some, None}
-use Rattle.std.proofs.shelf.Lists.{at-drop-more, at-drop-all, getD-append-left, take-append-le}
-use Rattle.std.proofs.shelf.Tests.{cond-true, cond-false, not-true, not-false, and-left, and-right, and-from, eq-eqb, ne-eqb}
+use Rattle.std.proofs.shelf.Lists.{at-drop-more, at-drop-all, drop-more, drop-all, getD-append-left, take-append-le}
+use Rattle.std.proofs.shelf.Tests.{cond-true, cond-false, not-true, not-false, and-left, and-right, and-from, eq-eqb, ne-eqb, cases-lt}
 use Rattle.kinds.specs.Kinds.{Model}
 use Rattle.search.specs.Rule.{is-open, candidate, beats, beaten, offered, tried, tries}
 use Rattle.search.specs.declared.label.Label.{Label}
@@ -92,3 +93,11 @@ number-some false i j e = let z : _≡_ {A = ℕ} 0 1 = cc in absurd (omega arit
 pub number-none : (b : Bool) (i : ℕ) → None ≡ cond b (Some i) None → b ≡ false
 number-none true i e = let z : _≡_ {A = ℕ} 0 1 = cc in absurd (omega arith)
 number-none false i e = refl
+
+-- what is left of a list from place i on, taken apart
+pub drop-view : {X : Type 0} (all : List X) (i : ℕ) (x : X) (rest : List X) → x ∷ rest ≡ drop i all → (i < length all) × (x ≡ getD all i x) × (rest ≡ drop (i + 1) all)
+drop-view {X} all i x rest e =
+    ⊎-elim
+    (λ lt. let f = drop-more all i x lt in (lt, cc, cc))
+    (λ le. absurd (let f = drop-all i all le in let g : x ∷ rest ≡ [] = e ∙ f in let n = ap length g in omega arith))
+    (cases-lt i (length all))

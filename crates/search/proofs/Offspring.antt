@@ -8,14 +8,14 @@ use native.Mathlib.Omega.{arith}
 use lib.Dec.{eqb, leb}
 use lib.ListN.{length, getD, take, drop, length-drop, take-append-drop}
 use Rattle.std.specs.shelf.Lists.{All}
-use Rattle.std.proofs.shelf.Lists.{drop-more, drop-all, getD-default}
+use Rattle.std.proofs.shelf.Lists.{getD-default}
 use Rattle.std.proofs.shelf.Elements.{all-weaker, all-append}
 use Rattle.std.proofs.shelf.Tests.{cases-bool, cond-true, cond-false, and-parts, and-from, or-parts, or-left, or-right, or-cases, and-right, not-true, not-from-true, not-from-false, eqb-true, eq-eqb, le-leb, leb-true, both-ways, cases-lt}
 use Rattle.kinds.specs.Kinds.{Model, Laws}
 use Rattle.search.specs.Rule.{is-open, candidate, beats, beaten, offered, tried, tries}
 use Rattle.search.specs.declared.label.Label.{Label}
 use Rattle.search.specs.declared.label.Link.{Link}
-use Rattle.search.proofs.Offers.{tried-over, tries-grows}
+use Rattle.search.proofs.Offers.{drop-view, tried-over, tries-grows}
 
 module _ {K S U : Type 0} (m : Model K S U) (k : K) where
   pub beats-parts : (l c : Label S) → beats m k l c ≡ true → (l .node ≡ c .node) × (l .hops ≤ c .hops) × (m .covers k (l .state) (c .state) ≡ true)
@@ -106,13 +106,6 @@ module _ {K S U : Type 0} (m : Model K S U) (k : K) (flags : List Bool) (n : ℕ
     within = h .within;
     unbeaten = beaten-front m k c ls more (h .unbeaten);
   }
-
-  drop-view : {X : Type 0} (all : List X) (i : ℕ) (x : X) (rest : List X) → x ∷ rest ≡ drop i all → (i < length all) × (x ≡ getD all i x) × (rest ≡ drop (i + 1) all)
-  drop-view {X} all i x rest e =
-      ⊎-elim
-      (λ lt. let f = drop-more all i x lt in (lt, cc, cc))
-      (λ le. absurd (let f = drop-all i all le in let g : x ∷ rest ≡ [] = e ∙ f in let n = ap length g in omega arith))
-      (cases-lt i (length all))
 
   adds : (all : List (Link U)) (rest : List (Link U)) (i : ℕ) (ls : List (Label S)) → rest ≡ drop i all → Adds all rest ls (tries m k flags n l i rest ls)
   unfolding tries

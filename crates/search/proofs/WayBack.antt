@@ -96,11 +96,11 @@ module _ {K S U : Type 0} (m : Model K S U) (laws : Laws m) (q : Query K U) (ls 
       ⊎-elim
       (λ r. absurd (omega (arith, ap (λ l. l .hops) (r .label-is))))
       (λ c.
-          let parent : at m q ls j .from ≡ c .parent = c .parent-is in
-          let before : at m q ls (c .parent) .hops ≡ h = omega (arith, ap (λ l. l .hops) (c .made-of .is)) in
-          let b = back-child h j (way h ls (c .parent)) c lt before (back h (c .parent) (omega (arith, c .earlier)) before) in
-          let same : way (suc h) ls j ≡ way h ls (c .parent) ++ c .made-of .number ∷ [] = ap₂ (λ n i. way h ls n ++ i ∷ []) (from-is j lt ∙ parent) (link-is j lt ∙ ap (λ l. l .link) (c .made-of .is)) in
-          subst (Back (suc h) j) (sym same) b)
+      let parent : at m q ls j .from ≡ c .parent = c .parent-is in
+      let before : at m q ls (c .parent) .hops ≡ h = omega (arith, ap (λ l. l .hops) (c .made-of .is)) in
+      let b = back-child h j (way h ls (c .parent)) c lt before (back h (c .parent) (omega (arith, c .earlier)) before) in
+      let same : way (suc h) ls j ≡ way h ls (c .parent) ++ c .made-of .number ∷ [] = ap₂ (λ n i. way h ls n ++ i ∷ []) (from-is j lt ∙ parent) (link-is j lt ∙ ap (λ l. l .link) (c .made-of .is)) in
+      subst (Back (suc h) j) (sym same) b)
       (tree j lt)
 
   pub way-back : (j : ℕ) → j < length ls → Back (at m q ls j .hops) j (route-of ls j)

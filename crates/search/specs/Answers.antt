@@ -5,7 +5,7 @@ use mathlib.Core.List.{List, [], _∷_}
 use mathlib.Core.Logic.{_↔_}
 use Prim.Native.Nat.{ℕ, _+_, _≤_, _<_}
 use lib.Dec.{eqb, ltb}
-use lib.ListN.{length}
+use lib.ListN.{length, getD}
 use Rattle.std.specs.declared.option.Option.{Option}
 use Rattle.std.specs.declared.option.Option.the-variants.{Some, None}
 use Rattle.std.specs.declared.result.Result.{Result}
@@ -44,6 +44,16 @@ module _ {K S U : Type 0} (m : Model K S U) (k : K) (target : ℕ) where
   -- the label at the target with the least figure, then the fewest hops, then the lowest number
   abbrev pub best : List (Label S) → Option Best
   best ls = weighs None 0 ls
+
+  -- b is the label at the target with the least figure, then the fewest hops, then the lowest number
+  pub record Least (ls : List (Label S)) (b : Best) : Type 0 where
+    pub inside : b .label < length ls
+    pub node-is : (d : Label S) → getD ls (b .label) d .node ≡ target
+    pub figure-is : (d : Label S) → m .figure k (getD ls (b .label) d .state) ≡ b .figure
+    pub hops-is : (d : Label S) → getD ls (b .label) d .hops ≡ b .hops
+    pub figure-least : (d : Label S) (j : ℕ) → j < length ls → getD ls j d .node ≡ target → b .figure ≤ m .figure k (getD ls j d .state)
+    pub hops-least : (d : Label S) (j : ℕ) → j < length ls → getD ls j d .node ≡ target → m .figure k (getD ls j d .state) ≡ b .figure → b .hops ≤ getD ls j d .hops
+    pub number-least : (d : Label S) (j : ℕ) → j < length ls → getD ls j d .node ≡ target → m .figure k (getD ls j d .state) ≡ b .figure → getD ls j d .hops ≡ b .hops → b .label ≤ j
 
 -- an answer: 0 and its values, or the number of the refusal
 abbrev pub told : Result Found SearchFault → ℕ × List ℕ
