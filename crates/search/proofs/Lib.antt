@@ -1,5 +1,6 @@
 pub mod Chosen
 pub mod Coverage
+pub mod Fields
 pub mod Making
 pub mod Offers
 pub mod Offspring

@@ -1,5 +1,6 @@
 // The label search: the cheapest route within limits over the open links of a net.
 mod answer;
+mod back;
 mod best;
 mod label;
 mod rounds;
@@ -7,6 +8,7 @@ mod route;
 
 pub use answer::Found;
 pub use answer::SearchFault;
+pub use back::route_to;
 pub use label::Label;
 pub use label::Link;
 pub use route::search;
