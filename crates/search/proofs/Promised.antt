@@ -156,3 +156,16 @@ module _ {K S U : Type 0} (m : Model K S U) (laws : Laws m) (q : Query K U) wher
       promised-fits r e =
           let k = kept (made m q) old count left h in
           by-cases r (best m (q .kind) (q .target) (made m q)) (e ∙ ap (λ ls. answer-of (best m (q .kind) (q .target) ls) count) (k .front)) (picked m (q .kind) (q .target) (made m q))
+
+  -- what the best label, or none, says of every route there is
+  pub best-inside : (b : Best) → best m (q .kind) (q .target) (made m q) ≡ Some b → b .label < length (made m q)
+  best-inside b e = subst (Picked m (q .kind) (q .target) (made m q)) e (picked m (q .kind) (q .target) (made m q)) .inside
+
+  pub best-cheapest : (b : Best) → best m (q .kind) (q .target) (made m q) ≡ Some b → Cheapest m q (route-of (made m q) (b .label)) (b .figure) (b .hops)
+  best-cheapest b e = least-cheapest b (subst (Picked m (q .kind) (q .target) (made m q)) e (picked m (q .kind) (q .target) (made m q)))
+
+  pub best-none : best m (q .kind) (q .target) (made m q) ≡ None → (p : List ℕ) → Route m q p → ⊥
+  best-none e = none-route (subst (Picked m (q .kind) (q .target) (made m q)) e (picked m (q .kind) (q .target) (made m q)))
+
+  pub stored-route : (old : List (Label S)) (j : ℕ) → length (made m q) ≤ length old → j < length (made m q) → route-of (stored (made m q) old) j ≡ route-of (made m q) j
+  stored-route old j fits lt = ap (λ ls. route-of ls j) (stored-fits old (made m q) fits) ∙ route-within (drop (length (made m q)) old) j lt
