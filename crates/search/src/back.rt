@@ -2,9 +2,9 @@
 ghost use mathlib.Core.Path.{_≡_};
 ghost use mathlib.Core.Bool.{cond};
 ghost use mathlib.Core.List.{map, _++_};
-ghost use Prim.Native.Nat.{_≤_};
+ghost use Prim.Native.Nat.{_≤_, _<_};
 ghost use lib.Dec.{leb};
-ghost use lib.ListN.{length, getD, drop};
+ghost use lib.ListN.{length, getD, set, drop};
 ghost use Rattle.std.specs.declared.option.Option.the-variants.{Some, None};
 ghost use Rattle.search.specs.Routes.{way, route-of};
 use crate::label::Label;
@@ -27,6 +27,14 @@ fn link_at<S: Copy>(labels: &[Label<S>], n: usize) -> u16
     if n < labels.len() { labels[n].link } else { 0 }
 }
 
+// Writes a link at its place, counted from the source.
+fn write_link(places: &mut [u16], place: usize, link: u16)
+    requires { ⌜ place < length (now places) ⌝ }
+    ensures { λ _. ⌜ now (places .exit) ≡ set (now (places .entry)) place link ⌝ }
+{
+    places[place] = link;
+}
+
 // Writes the links back from label `n`, `hops` of them, from the start of the places on.
 fn write_back<S: Copy>(labels: &[Label<S>], n: usize, hops: usize, places: &mut [u16])
     requires { ⌜ hops ≤ length (now places) ⌝ }
@@ -36,7 +44,7 @@ fn write_back<S: Copy>(labels: &[Label<S>], n: usize, hops: usize, places: &mut 
     let mut left = hops;
     while left > 0 {
         left -= 1;
-        places[left] = link_at(labels, at);
+        write_link(places, left, link_at(labels, at));
         at = from_at(labels, at);
     }
 }

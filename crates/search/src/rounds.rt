@@ -3,6 +3,7 @@ ghost use mathlib.Core.Path.{_≡_};
 ghost use mathlib.Core.Bool.{Bool, false, not, cond, _&&_};
 ghost use mathlib.Core.List.{List};
 ghost use Prim.Native.Nat.{ℕ, _≤_, _<_};
+ghost use lib.Dec.{ltb};
 ghost use lib.ListN.{length, getD, take};
 ghost use Rattle.std.specs.declared.option.Option.the-variants.{Some, None};
 ghost use Rattle.search.specs.Rule.{is-open, candidate, beats, beaten, offered, first, tried, tries, turn, made, asked, Stores};
@@ -62,6 +63,12 @@ fn is_dropped<K: Kind>(
     is_beaten(kind, label, &labels[0..count])
 }
 
+fn has_place(count: usize, places: usize) -> bool
+    ensures { λ r. ⌜ r ≡ ltb count places ⌝ }
+{
+    count < places
+}
+
 // Stores a label that is not dropped.
 fn offer<K: Kind>(
     kind: &K,
@@ -75,7 +82,7 @@ fn offer<K: Kind>(
     if is_dropped(kind, label, count, labels) {
         return Some(count);
     }
-    if count >= labels.len() {
+    if !has_place(count, labels.len()) {
         return None;
     }
     labels[count] = *label;
