@@ -8,3 +8,4 @@ pub mod PairLaws
 pub mod Parts
 pub mod Passes
 pub mod RowsHold
+pub mod Views

@@ -8,3 +8,4 @@ pub mod Pair
 pub mod Passes
 pub mod Rows
 pub mod Stopped
+pub mod Views

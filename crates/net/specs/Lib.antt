@@ -1,0 +1,5 @@
+pub mod Calls
+pub mod Laws
+pub mod Ledger
+pub mod Questions
+pub mod Tables
