@@ -109,11 +109,11 @@ module _ {K S U : Type 0} (m : Model K S U) (q : Query K U) (places : ℕ) where
           }
 
 -- a question that was not answered no
-none-of : (n : ℕ) (b : Bool) (rest : ℕ) → cond b (suc n) rest ≡ 0 → rest ≡ 0
+pub none-of : (n : ℕ) (b : Bool) (rest : ℕ) → cond b (suc n) rest ≡ 0 → rest ≡ 0
 none-of n true rest e = absurd (omega arith)
 none-of n false rest e = e
 
-is-false : (n : ℕ) (b : Bool) (rest : ℕ) → cond b (suc n) rest ≡ 0 → b ≡ false
+pub is-false : (n : ℕ) (b : Bool) (rest : ℕ) → cond b (suc n) rest ≡ 0 → b ≡ false
 is-false n true rest e = absurd (omega arith)
 is-false n false rest e = refl
 

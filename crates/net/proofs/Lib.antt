@@ -1,7 +1,12 @@
 pub mod Booking
 pub mod Flags
+pub mod Following
+pub mod Matching
+pub mod Ran
 pub mod Runs
 pub mod Scans
 pub mod Shifts
+pub mod Standing
 pub mod Tabled
+pub mod Taken
 pub mod Written

@@ -4,7 +4,7 @@ use mathlib.Core.Bool.{cond}
 use mathlib.Core.List.{List, [], _∷_, _++_, map}
 use Prim.Native.Nat.{ℕ, _+_, _<_}
 use lib.Dec.{eqb, leb, ltb}
-use lib.ListN.{length, drop, replicate}
+use lib.ListN.{length, getD, take, drop, replicate}
 use Rattle.std.specs.Holes.{removed}
 use Rattle.std.specs.declared.option.Option.{Option}
 use Rattle.std.specs.declared.option.Option.the-variants.{Some, None}
@@ -67,6 +67,10 @@ show-answer (Some v) = (0, v .0 ∷ v .1 ∷ v .2 ∷ [])
 abbrev pub show-list-of : List Stream → List ℕ → List ℕ
 show-list-of [] places = places
 show-list-of (s ∷ ss) places = cond (ltb (length places) (length (route s))) places (stored (route s) places)
+
+-- the answer with the links that were written, in place of their count
+abbrev pub shown : Told → List ℕ → Told
+shown x list = (x .0, cond (eqb (x .0) 0) (getD (x .1) 0 0 ∷ getD (x .1) 1 0 ∷ take (getD (x .1) 2 0) list) [])
 
 module _ (b : Table Stream) (n : ℕ) (places : List ℕ) where
   abbrev pub show-told : Told

@@ -1,9 +1,15 @@
 // The calls of a net being laid.
 ghost use mathlib.Core.Path.{_≡_};
-ghost use mathlib.Core.List.{[], _∷_};
+ghost use mathlib.Core.Bool.{true, false};
+ghost use mathlib.Core.List.{List, [], _∷_};
 ghost use Rattle.net.specs.Questions.{net-fault-number, told, unless, node-count, check-refusal};
 ghost use Rattle.net.specs.Calls.{add-told, add-left, withdraw-told, withdraw-left};
-ghost use Rattle.net.specs.Tables.{table};
+ghost use Rattle.net.specs.Ledger.{Site, after};
+ghost use Rattle.net.specs.Matching.{Matches, Follows};
+ghost use Rattle.net.specs.Tables.{Table, table};
+ghost use Rattle.net.specs.declared.types.Call.{Call};
+ghost use Rattle.net.specs.declared.types.Call.the-variants.{Add, Withdraw, Open};
+ghost use Rattle.net.specs.declared.types.Stream.{Stream};
 use crate::table::in_use;
 use crate::table::take_out;
 use crate::types::Laying;
@@ -66,6 +72,42 @@ impl<'a, K: Kind> Laying<'a, K> {
         ensures answer { λ r. ⌜ told (λ n. n ∷ []) r ≡ add-told (now (self .entry) .nodes) (table (now (self .entry) .count) (now (self .entry) .links .now)) link ⌝ }
         ensures left { λ _. ⌜ table (now (self .exit) .count) (now (self .exit) .links .now) ≡ add-left (now (self .entry) .nodes) (table (now (self .entry) .count) (now (self .entry) .links .now)) link ⌝ }
         ensures nodes { λ _. ⌜ now (self .exit) .nodes ≡ now (self .entry) .nodes ⌝ }
+        ensures ledger { λ r. ⌜ ((site : Site) (calls : List (Call K K·Use)) (b : Table Stream) → Matches site (after (K·Kind .model) site calls) false (now (self .entry) .nodes) (table (now (self .entry) .count) (now (self .entry) .links .now)) b → Follows (K·Kind .model) site calls (Add link) (told (λ n. n ∷ []) r) false (now (self .exit) .nodes) (table (now (self .exit) .count) (now (self .exit) .links .now)) b) ⌝ }
+    {
+        self.place(link)
+    }
+
+    // Takes a link out; each later one moves down a place.
+    pub fn withdraw(&mut self, link: u16) -> Result<(), NetFault>
+        ensures answer { λ r. ⌜ told (λ _. []) r ≡ withdraw-told (table (now (self .entry) .count) (now (self .entry) .links .now)) link ⌝ }
+        ensures left { λ _. ⌜ table (now (self .exit) .count) (now (self .exit) .links .now) ≡ withdraw-left (table (now (self .entry) .count) (now (self .entry) .links .now)) link ⌝ }
+        ensures nodes { λ _. ⌜ now (self .exit) .nodes ≡ now (self .entry) .nodes ⌝ }
+        ensures ledger { λ r. ⌜ ((site : Site) (calls : List (Call K K·Use)) (b : Table Stream) → Matches site (after (K·Kind .model) site calls) false (now (self .entry) .nodes) (table (now (self .entry) .count) (now (self .entry) .links .now)) b → Follows (K·Kind .model) site calls (Withdraw link) (told (λ _. []) r) false (now (self .exit) .nodes) (table (now (self .exit) .count) (now (self .exit) .links .now)) b) ⌝ }
+    {
+        self.remove(link)
+    }
+
+    pub fn open(self) -> Service<'a, K>
+        ensures nodes { λ r. ⌜ r .nodes ≡ self .entry .nodes ⌝ }
+        ensures table { λ r. ⌜ table (r .count) (r .links .now) ≡ table (self .entry .count) (self .entry .links .now) ⌝ }
+        ensures ledger { λ r. ⌜ ((site : Site) (calls : List (Call K K·Use)) (b : Table Stream) → Matches site (after (K·Kind .model) site calls) false (self .entry .nodes) (table (self .entry .count) (self .entry .links .now)) b → Follows (K·Kind .model) site calls Open (0, []) true (r .nodes) (table (r .count) (r .links .now)) b) ⌝ }
+    {
+        let Laying {
+            nodes,
+            count,
+            links,
+        } = self;
+        Service {
+            nodes,
+            count,
+            links,
+        }
+    }
+
+    fn place(&mut self, link: Link<K::Use>) -> Result<u16, NetFault>
+        ensures answer { λ r. ⌜ told (λ n. n ∷ []) r ≡ add-told (now (self .entry) .nodes) (table (now (self .entry) .count) (now (self .entry) .links .now)) link ⌝ }
+        ensures left { λ _. ⌜ table (now (self .exit) .count) (now (self .exit) .links .now) ≡ add-left (now (self .entry) .nodes) (table (now (self .entry) .count) (now (self .entry) .links .now)) link ⌝ }
+        ensures nodes { λ _. ⌜ now (self .exit) .nodes ≡ now (self .entry) .nodes ⌝ }
     {
         let count = in_use(512, self.count, self.links.len());
         if link.tail >= self.nodes {
@@ -85,8 +127,7 @@ impl<'a, K: Kind> Laying<'a, K> {
         Ok(count as u16)
     }
 
-    // Takes a link out; each later one moves down a place.
-    pub fn withdraw(&mut self, link: u16) -> Result<(), NetFault>
+    fn remove(&mut self, link: u16) -> Result<(), NetFault>
         ensures answer { λ r. ⌜ told (λ _. []) r ≡ withdraw-told (table (now (self .entry) .count) (now (self .entry) .links .now)) link ⌝ }
         ensures left { λ _. ⌜ table (now (self .exit) .count) (now (self .exit) .links .now) ≡ withdraw-left (table (now (self .entry) .count) (now (self .entry) .links .now)) link ⌝ }
         ensures nodes { λ _. ⌜ now (self .exit) .nodes ≡ now (self .entry) .nodes ⌝ }
@@ -99,21 +140,5 @@ impl<'a, K: Kind> Laying<'a, K> {
         take_out(self.links, count, at);
         self.count = count - 1;
         Ok(())
-    }
-
-    pub fn open(self) -> Service<'a, K>
-        ensures nodes { λ r. ⌜ r .nodes ≡ self .entry .nodes ⌝ }
-        ensures table { λ r. ⌜ table (r .count) (r .links .now) ≡ table (self .entry .count) (self .entry .links .now) ⌝ }
-    {
-        let Laying {
-            nodes,
-            count,
-            links,
-        } = self;
-        Service {
-            nodes,
-            count,
-            links,
-        }
     }
 }

@@ -1,23 +1,28 @@
 // The calls of a net in service.
 ghost use mathlib.Core.Path.{_≡_};
-ghost use mathlib.Core.Bool.{cond};
-ghost use mathlib.Core.List.{[], _∷_};
-ghost use Prim.Native.Nat.{_-_, _≤_, min};
+ghost use mathlib.Core.Bool.{true, false, cond};
+ghost use mathlib.Core.List.{List, [], _∷_};
+ghost use Prim.Native.Nat.{ℕ, _-_, _≤_, min};
 ghost use lib.Dec.{eqb};
 ghost use lib.ListN.{length, take};
 ghost use Rattle.std.specs.Holes.{removed};
 ghost use Rattle.search.specs.Answers.{answer as search-answer, told as search-told-of};
 ghost use Rattle.search.specs.Routes.{route-of};
 ghost use Rattle.search.specs.Rule.{made, stored};
-ghost use Rattle.net.specs.Calls.{numbers-of, bearing, release-told, release-left, show-told, show-list, show-told-of, show-list-of, show-answer, recorded-as, written, Books, load-told, book-told-by, book-left, labels-left};
+ghost use Rattle.net.specs.Calls.{numbers-of, bearing, release-told, release-left, show-told, show-list, show-told-of, show-list-of, show-answer, shown, recorded-as, written, Books, load-told, book-told-by, book-left, labels-left};
 ghost use Rattle.net.specs.Questions.{told, unless, book-refusal, route-refusal, stream-refusal, query};
-ghost use Rattle.net.specs.Tables.{table, place-of, load};
+ghost use Rattle.net.specs.Ledger.{Site, after};
+ghost use Rattle.net.specs.Matching.{Matches, Follows};
+ghost use Rattle.net.specs.Tables.{Table, table, listed, put, place-of, load};
+ghost use Rattle.net.specs.declared.types.Call.{Call};
+ghost use Rattle.net.specs.declared.types.Call.the-variants.{Book as BookCall, Release, Show, Load, Close};
 use crate::streams::load_of;
 use crate::streams::mark_open;
 use crate::streams::place_of;
 use crate::table::in_use;
 use crate::table::take_out;
 use crate::types::Book;
+use crate::types::Laying;
 use crate::types::NetFault;
 use crate::types::NetFaultFromSearch;
 use crate::types::Request;
@@ -243,6 +248,74 @@ impl<'a, K: Kind> Service<'a, K> {
         ensures answer { λ r. ⌜ told (λ v. v .0 ∷ v .1 ∷ v .2 ∷ []) r ≡ book-told-by (K·Kind .model) (now (self .entry) .nodes) (table (now (self .entry) .count) (now (self .entry) .links .now)) (table (now (book .entry) .count) (now (book .entry) .streams .now)) (now (kind .entry)) (now (request .entry)) (length (now (labels .entry))) ⌝ }
         ensures left { λ _. ⌜ table (now (book .exit) .count) (now (book .exit) .streams .now) ≡ book-left (K·Kind .model) (now (self .entry) .nodes) (table (now (self .entry) .count) (now (self .entry) .links .now)) (table (now (book .entry) .count) (now (book .entry) .streams .now)) (now (kind .entry)) (now (request .entry)) (length (now (labels .entry))) ⌝ }
         ensures labels { λ _. ⌜ now (labels .exit) ≡ labels-left (K·Kind .model) (now (self .entry) .nodes) (table (now (self .entry) .count) (now (self .entry) .links .now)) (table (now (book .entry) .count) (now (book .entry) .streams .now)) (now (kind .entry)) (now (request .entry)) (now (labels .entry)) ⌝ }
+        ensures ledger { λ r. ⌜ ((site : Site) (calls : List (Call K K·Use)) (places : ℕ) → Matches site (after (K·Kind .model) site calls) true (now (self .entry) .nodes) (table (now (self .entry) .count) (now (self .entry) .links .now)) (table (now (book .entry) .count) (now (book .entry) .streams .now)) → length (now (labels .entry)) ≡ min places (site .label-places) → Follows (K·Kind .model) site calls (BookCall (now (request .entry)) (now (kind .entry)) places) (told (λ v. v .0 ∷ v .1 ∷ v .2 ∷ []) r) true (now (self .entry) .nodes) (table (now (self .entry) .count) (now (self .entry) .links .now)) (table (now (book .exit) .count) (now (book .exit) .streams .now))) ⌝ }
+    {
+        self.enter(book, kind, request, labels)
+    }
+
+    pub fn show(
+        &self,
+        book: &Book,
+        stream: u16,
+        places: &mut [u16],
+    ) -> Result<(u32, u32, u16), NetFault>
+        ensures answer { λ r. ⌜ told (λ v. v .0 ∷ v .1 ∷ v .2 ∷ []) r ≡ show-told (table (now (book .entry) .count) (now (book .entry) .streams .now)) stream (now (places .entry)) ⌝ }
+        ensures list { λ _. ⌜ now (places .exit) ≡ show-list (table (now (book .entry) .count) (now (book .entry) .streams .now)) stream (now (places .entry)) ⌝ }
+        ensures ledger { λ r. ⌜ ((site : Site) (calls : List (Call K K·Use)) → Matches site (after (K·Kind .model) site calls) true (now (self .entry) .nodes) (table (now (self .entry) .count) (now (self .entry) .links .now)) (table (now (book .entry) .count) (now (book .entry) .streams .now)) → 16 ≤ length (now (places .entry)) → Follows (K·Kind .model) site calls (Show stream) (shown (told (λ v. v .0 ∷ v .1 ∷ v .2 ∷ []) r) (now (places .exit))) true (now (self .entry) .nodes) (table (now (self .entry) .count) (now (self .entry) .links .now)) (table (now (book .entry) .count) (now (book .entry) .streams .now))) ⌝ }
+    {
+        self.write(book, stream, places)
+    }
+
+    pub fn release(&self, book: &mut Book, stream: u16) -> Result<(), NetFault>
+        ensures answer { λ r. ⌜ told (λ _. []) r ≡ release-told (table (now (book .entry) .count) (now (book .entry) .streams .now)) stream ⌝ }
+        ensures left { λ _. ⌜ table (now (book .exit) .count) (now (book .exit) .streams .now) ≡ release-left (table (now (book .entry) .count) (now (book .entry) .streams .now)) stream ⌝ }
+        ensures ledger { λ r. ⌜ ((site : Site) (calls : List (Call K K·Use)) → Matches site (after (K·Kind .model) site calls) true (now (self .entry) .nodes) (table (now (self .entry) .count) (now (self .entry) .links .now)) (table (now (book .entry) .count) (now (book .entry) .streams .now)) → Follows (K·Kind .model) site calls (Release stream) (told (λ _. []) r) true (now (self .entry) .nodes) (table (now (self .entry) .count) (now (self .entry) .links .now)) (table (now (book .exit) .count) (now (book .exit) .streams .now))) ⌝ }
+    {
+        self.end(book, stream)
+    }
+
+    pub fn load(&self, book: &Book, link: u16) -> Result<u64, NetFault>
+        ensures answer { λ r. ⌜ told (λ n. n ∷ []) r ≡ load-told (table (now (self .entry) .count) (now (self .entry) .links .now)) (table (now (book .entry) .count) (now (book .entry) .streams .now)) link ⌝ }
+        ensures ledger { λ r. ⌜ ((site : Site) (calls : List (Call K K·Use)) → Matches site (after (K·Kind .model) site calls) true (now (self .entry) .nodes) (table (now (self .entry) .count) (now (self .entry) .links .now)) (table (now (book .entry) .count) (now (book .entry) .streams .now)) → Follows (K·Kind .model) site calls (Load link) (told (λ n. n ∷ []) r) true (now (self .entry) .nodes) (table (now (self .entry) .count) (now (self .entry) .links .now)) (table (now (book .entry) .count) (now (book .entry) .streams .now))) ⌝ }
+    {
+        self.sum(book, link)
+    }
+
+    // Ends every stream, and gives a net being laid again and how many there were.
+    pub fn close(self, book: &mut Book) -> (Laying<'a, K>, usize)
+        ensures nodes { λ r. ⌜ r .0 .nodes ≡ self .entry .nodes ⌝ }
+        ensures table { λ r. ⌜ table (r .0 .count) (r .0 .links .now) ≡ table (self .entry .count) (self .entry .links .now) ⌝ }
+        ensures ended { λ r. ⌜ r .1 ≡ length (listed 64 (table (now (book .entry) .count) (now (book .entry) .streams .now))) ⌝ }
+        ensures left { λ _. ⌜ table (now (book .exit) .count) (now (book .exit) .streams .now) ≡ put [] (table (now (book .entry) .count) (now (book .entry) .streams .now)) ⌝ }
+        ensures ledger { λ r. ⌜ ((site : Site) (calls : List (Call K K·Use)) → Matches site (after (K·Kind .model) site calls) true (self .entry .nodes) (table (self .entry .count) (self .entry .links .now)) (table (now (book .entry) .count) (now (book .entry) .streams .now)) → Follows (K·Kind .model) site calls Close (0, r .1 ∷ []) false (r .0 .nodes) (table (r .0 .count) (r .0 .links .now)) (table (now (book .exit) .count) (now (book .exit) .streams .now))) ⌝ }
+    {
+        let Service {
+            nodes,
+            count,
+            links,
+        } = self;
+        let ended = in_use(64, book.count, book.streams.len());
+        book.count = 0;
+        let net = Laying {
+            nodes,
+            count,
+            links,
+        };
+        (net, ended)
+    }
+}
+
+impl<'a, K: Kind> Service<'a, K> {
+    fn enter(
+        &self,
+        book: &mut Book,
+        kind: &K,
+        request: &Request,
+        labels: &mut [Label<K::State>],
+    ) -> Result<(u32, u16, u64), NetFault>
+        ensures answer { λ r. ⌜ told (λ v. v .0 ∷ v .1 ∷ v .2 ∷ []) r ≡ book-told-by (K·Kind .model) (now (self .entry) .nodes) (table (now (self .entry) .count) (now (self .entry) .links .now)) (table (now (book .entry) .count) (now (book .entry) .streams .now)) (now (kind .entry)) (now (request .entry)) (length (now (labels .entry))) ⌝ }
+        ensures left { λ _. ⌜ table (now (book .exit) .count) (now (book .exit) .streams .now) ≡ book-left (K·Kind .model) (now (self .entry) .nodes) (table (now (self .entry) .count) (now (self .entry) .links .now)) (table (now (book .entry) .count) (now (book .entry) .streams .now)) (now (kind .entry)) (now (request .entry)) (length (now (labels .entry))) ⌝ }
+        ensures labels { λ _. ⌜ now (labels .exit) ≡ labels-left (K·Kind .model) (now (self .entry) .nodes) (table (now (self .entry) .count) (now (self .entry) .links .now)) (table (now (book .entry) .count) (now (book .entry) .streams .now)) (now (kind .entry)) (now (request .entry)) (now (labels .entry)) ⌝ }
     {
         let standing = in_use(64, book.count, book.streams.len());
         let count = in_use(512, self.count, self.links.len());
@@ -260,7 +333,7 @@ impl<'a, K: Kind> Service<'a, K> {
         Ok(answer)
     }
 
-    pub fn show(
+    fn write(
         &self,
         book: &Book,
         stream: u16,
@@ -273,7 +346,7 @@ impl<'a, K: Kind> Service<'a, K> {
         show_among(book.streams, count, stream, places)
     }
 
-    pub fn release(&self, book: &mut Book, stream: u16) -> Result<(), NetFault>
+    fn end(&self, book: &mut Book, stream: u16) -> Result<(), NetFault>
         ensures answer { λ r. ⌜ told (λ _. []) r ≡ release-told (table (now (book .entry) .count) (now (book .entry) .streams .now)) stream ⌝ }
         ensures left { λ _. ⌜ table (now (book .exit) .count) (now (book .exit) .streams .now) ≡ release-left (table (now (book .entry) .count) (now (book .entry) .streams .now)) stream ⌝ }
     {
@@ -282,7 +355,7 @@ impl<'a, K: Kind> Service<'a, K> {
         Ok(())
     }
 
-    pub fn load(&self, book: &Book, link: u16) -> Result<u64, NetFault>
+    fn sum(&self, book: &Book, link: u16) -> Result<u64, NetFault>
         ensures { λ r. ⌜ told (λ n. n ∷ []) r ≡ load-told (table (now (self .entry) .count) (now (self .entry) .links .now)) (table (now (book .entry) .count) (now (book .entry) .streams .now)) link ⌝ }
     {
         let count = in_use(512, self.count, self.links.len());

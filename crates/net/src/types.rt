@@ -93,3 +93,37 @@ pub enum Call<K: Copy, U: Copy> {
     Load(u16),
     Close,
 }
+
+// A net, being laid or in service.
+#[derive(Drop)]
+pub enum Net<'a, K: Kind> {
+    Laid(Laying<'a, K>),
+    Serving(Service<'a, K>),
+}
+
+// The answer to a call.
+#[derive(Drop)]
+pub enum Answer {
+    Done,
+    Added(u16),
+    Booked(u32, u16, u64),
+    Shown {
+        figure: u32,
+        rate: u32,
+        hops: u16,
+        links: [u16; 16],
+    },
+    Loaded(u64),
+    Ended(usize),
+    Refused(NetFault),
+    // The net's state does not take the call.
+    NotTaken,
+}
+
+// What a list of calls leaves: the net, the book, and the answers in order.
+#[derive(Drop)]
+pub struct Shift<'a, 'b, K: Kind> {
+    pub net: Net<'a, K>,
+    pub book: Book<'b>,
+    pub answers: Vec<Answer>,
+}

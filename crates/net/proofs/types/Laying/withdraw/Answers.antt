@@ -1,28 +1,22 @@
-use mathlib.Core.Path.{_≡_, refl, sym, ap, ap₂, subst, _∙_}
-use Prim.Native.Nat.{_<_}
-use native.Mathlib.Omega.{arith}
-use lib.ListN.{length, take}
-use Rattle.std.specs.Holes.{removed}
-use Rattle.std.proofs.shelf.Tests.{cond-false, lt-leb}
-use Rattle.search.specs.Rule.{stored}
-use Rattle.net.specs.Questions.{link-refusal}
-use Rattle.net.specs.Tables.{table, listed, put}
-use Rattle.net.proofs.Tabled.{unless-none, leave-none, length-listed, put-less}
+use mathlib.Core.Path.{refl}
+use mathlib.Core.Bool.{false}
+use Rattle.net.specs.Calls.{withdraw-told, withdraw-left}
+use Rattle.net.specs.Ledger.{after}
+use Rattle.net.specs.Tables.{table}
+use Rattle.net.specs.declared.types.Call.the-variants.{Withdraw}
+use Rattle.net.proofs.Following.{follows}
+use Rattle.net.proofs.Matching.{withdraw-matches}
 use Rattle.net.proofs.types.Laying.withdraw.Needs as need
 
 pub returns : need.returns
 returns g c =
+    let m = g .K·Kind .model in
     let net = c .args .self .now in
     let t = table (net .count) (net .links .now) in
-    let count = c .in-use-count .result in
-    let long : length (listed 512 t) ≡ count = length-listed t 512 ∙ sym (c .in-use-count .ensures) in
-    let inside : c .args .link < length (listed 512 t) = omega (arith, c .from-at .ensures) in
-    let passes : link-refusal (length (listed 512 t)) (c .args .link) ≡ 0 = cond-false _ _ _ (lt-leb _ _ inside) in
+    let done = c .remove .ensures in
     record {
-      answer = sym (unless-none _ _ passes);
-      left =
-          put-less t count (c .from-at .result) (c .take-out .last .table) (omega arith) (omega (arith, c .in-use-count .ensures)) (c .take-out .ensures)
-          ∙ ap₂ (λ n i. put (removed (take n (net .links .now)) i) t) (c .in-use-count .ensures) (c .from-at .ensures)
-          ∙ sym (leave-none t _ _ passes);
-      nodes = refl;
+      answer = done .answer;
+      left = done .left;
+      nodes = done .nodes;
+      ledger = λ site calls b h. follows m site calls (Withdraw (c .args .link)) false (withdraw-told t (c .args .link)) (net .nodes) (withdraw-left t (c .args .link)) b (withdraw-matches m site (after m site calls) (net .nodes) t b h (c .args .link)) _ _ _ b (done .answer) (done .nodes) (done .left) refl;
     }

@@ -1,38 +1,35 @@
-use mathlib.Core.Path.{_≡_, sym, ap, _∙_}
+use mathlib.Core.Path.{_≡_, refl, sym, ap, subst, _∙_}
+use mathlib.Core.Bool.{true, false}
 use mathlib.Core.List.{[], _∷_}
-use Rattle.std.specs.declared.result.Result.the-variants.{Ok, Err}
-use Rattle.std.proofs.shelf.Results.{err-from-errBy}
-use Rattle.net.specs.Questions.{told}
-use Rattle.net.specs.Tables.{table}
-use Rattle.net.proofs.Booking.{books-listed, left-refused, left-booked}
+use lib.ListN.{length}
+use Rattle.net.specs.Calls.{release-told, release-left, load-told, book-told-by, book-left, shown, show-told, show-list}
+use Rattle.net.specs.Ledger.{after, answer}
+use Rattle.net.specs.Questions.{Told}
+use Rattle.net.specs.Tables.{table, listed, put}
+use Rattle.net.specs.declared.types.Call.the-variants.{Book, Release, Show, Load, Close}
+use Rattle.net.proofs.Following.{follows, show-answer-is}
+use Rattle.net.proofs.Matching.{release-matches, load-matches, book-matches, show-kept, close-matches}
+use Rattle.net.proofs.Standing.{sound-after, sound-measured}
+use Rattle.net.proofs.Tabled.{length-listed, put-none}
 use Rattle.net.proofs.types.Service.book.Needs as need
-
-pub returns-in-Break-answer : need.returns-in-Break-answer
-returns-in-Break-answer g c =
-    let net = c .args .self .now in
-    let book = c .args .book .now in
-    let t = table (net .count) (net .links .now) in
-    let b = table (book .count) (book .streams .now) in
-    let p = err-from-errBy (c .from-residual .result) (c .from-residual .ensures .1) in
-    let h = books-listed (g .K·Kind .model) (net .nodes) t b (c .args .kind .now) (c .args .request .now) (c .args .labels .now) (c .in-use-count .result) (c .in-use-standing .result) (c .in-use-count .ensures) (c .in-use-standing .ensures) (c .book-among .result) (c .book-among .last .streams) (c .book-among .last .labels) (c .book-among .ensures) in
-    let is = c .in-Break-answer .was tt in
-    let same = p .1 ∙ ap Err (p .2) ∙ sym is in
-    record {
-      answer = ap (told (λ v. v .0 ∷ v .1 ∷ v .2 ∷ [])) same ∙ h .answer-is;
-      left = left-refused (g .K·Kind .model) (net .nodes) t b (c .args .kind .now) (c .args .request .now) (c .args .labels .now) (c .in-use-count .result) (c .in-use-standing .result) (c .in-use-count .ensures) (c .in-use-standing .ensures) (c .book-among .result) (c .book-among .last .streams) (c .book-among .last .labels) (c .book-among .ensures) _ is;
-      labels = h .labels-are;
-    }
 
 pub returns : need.returns
 returns g c =
+    let m = g .K·Kind .model in
+    let laws = g .K·Kind·met .laws in
     let net = c .args .self .now in
     let book = c .args .book .now in
     let t = table (net .count) (net .links .now) in
     let b = table (book .count) (book .streams .now) in
-    let h = books-listed (g .K·Kind .model) (net .nodes) t b (c .args .kind .now) (c .args .request .now) (c .args .labels .now) (c .in-use-count .result) (c .in-use-standing .result) (c .in-use-count .ensures) (c .in-use-standing .ensures) (c .book-among .result) (c .book-among .last .streams) (c .book-among .last .labels) (c .book-among .ensures) in
-    let is = c .in-Continue-answer .was tt in
+    let done = c .enter .ensures in
+    let k = c .args .kind .now in
+    let r = c .args .request .now in
     record {
-      answer = sym (ap (told (λ v. v .0 ∷ v .1 ∷ v .2 ∷ [])) is) ∙ h .answer-is;
-      left = left-booked (g .K·Kind .model) (net .nodes) t b (c .args .kind .now) (c .args .request .now) (c .args .labels .now) (c .in-use-count .result) (c .in-use-standing .result) (c .in-use-count .ensures) (c .in-use-standing .ensures) (c .book-among .result) (c .book-among .last .streams) (c .book-among .last .labels) (c .book-among .ensures) _ is;
-      labels = h .labels-are;
+      answer = done .answer;
+      left = done .left;
+      labels = done .labels;
+      ledger = λ site calls places h fits.
+          let measured = sound-measured m (after m site calls) (sound-after m site laws calls) in
+          follows m site calls (Book r k places) true _ (net .nodes) t _ (book-matches m site (after m site calls) (net .nodes) t b h measured k r places) _ (net .nodes) t _
+          (done .answer ∙ ap (book-told-by m (net .nodes) t b k r) fits) refl refl (done .left ∙ ap (book-left m (net .nodes) t b k r) fits);
     }
