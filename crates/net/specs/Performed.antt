@@ -7,10 +7,10 @@ use lib.ListN.{length, take}
 use Rattle.kinds.specs.Kinds.{Model}
 use Rattle.search.specs.declared.label.Link.{Link}
 use Rattle.net.specs.Laws.{Laws-of-run}
-use Rattle.net.specs.Ledger.{Ledger, Site, after, answers, begun}
+use Rattle.net.specs.Ledger.{Ledger, Site, record-of, after, answers, begun}
 use Rattle.net.specs.Matching.{Matches, Follows}
 use Rattle.net.specs.Questions.{Told, net-fault-number}
-use Rattle.net.specs.Tables.{Table, table}
+use Rattle.net.specs.Tables.{Table, table, listed}
 use Rattle.net.specs.declared.types.Answer.{Answer}
 use Rattle.net.specs.declared.types.Answer.the-variants.{Done, Added, Booked, Shown, Loaded, Ended, Refused, NotTaken}
 use Rattle.net.specs.declared.types.Call.{Call}
@@ -44,9 +44,17 @@ module _ {K S U : Type 0} where
   links-of (Laid n) = table (n .count) (n .links .now)
   links-of (Serving n) = table (n .count) (n .links .now)
 
--- what a list of calls comes to: net and book are those of the ledger after it, and the answers are the ledger's, in order
-pub record Ran {K S U : Type 0} (m : Model K S U) (site : Site) (calls : List (Call K U)) (n : Net K S U) (b : Table Stream) (list : List Answer) : Type 0 where
+-- net and book are those of the ledger after the calls, and the answers are the ledger's, in order
+pub record Sofar {K S U : Type 0} (m : Model K S U) (site : Site) (calls : List (Call K U)) (n : Net K S U) (b : Table Stream) (list : List Answer) : Type 0 where
   pub matches : Matches site (after m site calls) (is-serving n) (nodes-of n) (links-of n) b
+  pub answered : map told-of list ≡ answers m site begun calls
+
+-- what a list of calls comes to: the state, the links and the records that lie in the tables, and the answers, in
+-- order, are the ledger's
+pub record Ran {K S U : Type 0} (m : Model K S U) (site : Site) (calls : List (Call K U)) (serving : Bool) (t : Table (Link U)) (b : Table Stream) (list : List Answer) : Type 0 where
+  pub serving-is : serving ≡ after m site calls .serving
+  pub links-are : listed 512 t ≡ after m site calls .links
+  pub records-are : listed 64 b ≡ map record-of (after m site calls .streams)
   pub answered : map told-of list ≡ answers m site begun calls
 
 abbrev pub site-of : ℕ → ℕ → ℕ → ℕ → Site

@@ -92,6 +92,13 @@ impl<'a, K: Kind> Laying<'a, K> {
         ensures table { λ r. ⌜ table (r .count) (r .links .now) ≡ table (self .entry .count) (self .entry .links .now) ⌝ }
         ensures ledger { λ r. ⌜ ((site : Site) (calls : List (Call K K·Use)) (b : Table Stream) → Matches site (after (K·Kind .model) site calls) false (self .entry .nodes) (table (self .entry .count) (self .entry .links .now)) b → Follows (K·Kind .model) site calls Open (0, []) true (r .nodes) (table (r .count) (r .links .now)) b) ⌝ }
     {
+        self.into_service()
+    }
+
+    fn into_service(self) -> Service<'a, K>
+        ensures nodes { λ r. ⌜ r .nodes ≡ self .entry .nodes ⌝ }
+        ensures table { λ r. ⌜ table (r .count) (r .links .now) ≡ table (self .entry .count) (self .entry .links .now) ⌝ }
+    {
         let Laying {
             nodes,
             count,

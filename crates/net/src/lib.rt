@@ -11,7 +11,6 @@ pub use types::Answer;
 pub use types::Book;
 pub use types::Call;
 pub use types::Laying;
-pub use types::Net;
 pub use types::NetFault;
 pub use types::Request;
 pub use types::Service;

@@ -45,6 +45,16 @@ impl<'a> Book<'a> {
     }
 }
 
+// Ends every stream, and gives how many there were.
+fn end_all(book: &mut Book) -> usize
+    ensures ended { λ r. ⌜ r ≡ min (now (book .entry) .count) (min 64 (length (now (book .entry) .streams .now))) ⌝ }
+    ensures left { λ _. ⌜ table (now (book .exit) .count) (now (book .exit) .streams .now) ≡ table 0 (now (book .entry) .streams .now) ⌝ }
+{
+    let ended = in_use(64, book.count, book.streams.len());
+    book.count = 0;
+    ended
+}
+
 // Takes out the stream that bears the number, and gives how many are left.
 fn remove_stream(streams: &mut [Stream], count: usize, number: u16) -> Result<usize, NetFault>
     requires { ⌜ count ≤ length (now streams) ⌝ }
@@ -294,8 +304,7 @@ impl<'a, K: Kind> Service<'a, K> {
             count,
             links,
         } = self;
-        let ended = in_use(64, book.count, book.streams.len());
-        book.count = 0;
+        let ended = end_all(book);
         let net = Laying {
             nodes,
             count,

@@ -10,7 +10,7 @@ ghost use Rattle.net.specs.Calls.{shown};
 ghost use Rattle.net.specs.Laws.{Laws-of-run};
 ghost use Rattle.net.specs.Ledger.{Site, after, begun};
 ghost use Rattle.net.specs.Matching.{Matches, Follows};
-ghost use Rattle.net.specs.Performed.{told-of, is-serving, nodes-of, links-of, Ran, site-of};
+ghost use Rattle.net.specs.Performed.{told-of, is-serving, nodes-of, links-of, Sofar, Ran, site-of};
 ghost use Rattle.net.specs.Questions.{told};
 ghost use Rattle.net.specs.Tables.{Table, table};
 ghost use Rattle.net.specs.declared.types.Call.{Call};
@@ -189,7 +189,7 @@ fn run<'a, K: Kind>(
     answers: &mut Vec<Answer>,
 ) -> Net<'a, K>
     requires { ⌜ vec-items (now answers) ≡ [] ⌝ ∗ ⌜ vec-len (now answers) ≡ 0 ⌝ ∗ ⌜ length (now calls) ≤ vec-cap (now answers) ⌝ }
-    ensures ran { λ r. ⌜ ((site : Site) → Matches {K = K} site begun (is-serving (net .entry)) (nodes-of (net .entry)) (links-of (net .entry)) (table (now (book .entry) .count) (now (book .entry) .streams .now)) → site .label-places ≡ length (now (labels .entry)) → Ran (K·Kind .model) site (now (calls .entry)) r (table (now (book .exit) .count) (now (book .exit) .streams .now)) (vec-items (now (answers .exit)))) ⌝ }
+    ensures ran { λ r. ⌜ ((site : Site) → Matches {K = K} site begun (is-serving (net .entry)) (nodes-of (net .entry)) (links-of (net .entry)) (table (now (book .entry) .count) (now (book .entry) .streams .now)) → site .label-places ≡ length (now (labels .entry)) → Sofar (K·Kind .model) site (now (calls .entry)) r (table (now (book .exit) .count) (now (book .exit) .streams .now)) (vec-items (now (answers .exit)))) ⌝ }
     ensures room { λ _. ⌜ length (now (labels .exit)) ≡ length (now (labels .entry)) ⌝ }
 {
     for i in 0..calls.len() {
@@ -198,6 +198,70 @@ fn run<'a, K: Kind>(
         answers.push_reserved(answer);
     }
     net
+}
+
+// Takes a net being laid apart.
+fn laid_apart<'a, K: Kind>(net: Laying<'a, K>) -> (usize, &'a mut [Link<K::Use>])
+    ensures { λ r. ⌜ table (r .0) (r .1 .now) ≡ table (net .entry .count) (net .entry .links .now) ⌝ }
+{
+    let Laying {
+        nodes,
+        count,
+        links,
+    } = net;
+    (count, links)
+}
+
+// Takes a net in service apart.
+fn serving_apart<'a, K: Kind>(net: Service<'a, K>) -> (usize, &'a mut [Link<K::Use>])
+    ensures { λ r. ⌜ table (r .0) (r .1 .now) ≡ table (net .entry .count) (net .entry .links .now) ⌝ }
+{
+    let Service {
+        nodes,
+        count,
+        links,
+    } = net;
+    (count, links)
+}
+
+fn handed_back<'a, 'b, K: Kind>(
+    net: Net<'a, K>,
+    book: Book<'b>,
+    answers: Vec<Answer>,
+) -> Shift<'a, 'b, K::Use>
+    ensures serving { λ r. ⌜ r .serving ≡ is-serving (net .entry) ⌝ }
+    ensures links { λ r. ⌜ table (r .«link_count») (r .links .now) ≡ links-of (net .entry) ⌝ }
+    ensures streams { λ r. ⌜ table (r .«stream_count») (r .streams .now) ≡ table (book .entry .count) (book .entry .streams .now) ⌝ }
+    ensures answers { λ r. ⌜ vec-items (r .answers) ≡ vec-items answers ⌝ }
+{
+    let Book {
+        count: stream_count,
+        streams,
+    } = book;
+    match net {
+        Net::Laid(laid) => {
+            let (link_count, links) = laid_apart(laid);
+            Shift {
+                serving: false,
+                link_count,
+                links,
+                stream_count,
+                streams,
+                answers,
+            }
+        }
+        Net::Serving(service) => {
+            let (link_count, links) = serving_apart(service);
+            Shift {
+                serving: true,
+                link_count,
+                links,
+                stream_count,
+                streams,
+                answers,
+            }
+        }
+    }
 }
 
 // Performs the calls, in order, on a net and a book made new together. The labels are a place to work in. The only
@@ -209,8 +273,8 @@ pub fn perform<'a, 'b, K: Kind>(
     streams: &'b mut [Stream],
     labels: &mut [Label<K::State>],
     calls: &[Call<K, K::Use>],
-) -> Result<Shift<'a, 'b, K>, AllocError>
-    ensures ran { λ r. ⌜ made r (λ s. Ran (K·Kind .model) (site-of nodes (length (now (links .entry))) (length (now (streams .entry))) (length (now (labels .entry)))) (now (calls .entry)) (s .net) (table (s .book .count) (s .book .streams .now)) (vec-items (s .answers))) ⌝ }
+) -> Result<Shift<'a, 'b, K::Use>, AllocError>
+    ensures ran { λ r. ⌜ made r (λ s. Ran (K·Kind .model) (site-of nodes (length (now (links .entry))) (length (now (streams .entry))) (length (now (labels .entry)))) (now (calls .entry)) (s .serving) (table (s .«link_count») (s .links .now)) (table (s .«stream_count») (s .streams .now)) (vec-items (s .answers))) ⌝ }
     ensures laws { λ _. ⌜ Laws-of-run (K·Kind .model) (site-of nodes (length (now (links .entry))) (length (now (streams .entry))) (length (now (labels .entry)))) (now (calls .entry)) ⌝ }
     ensures room { λ _. ⌜ length (now (labels .exit)) ≡ length (now (labels .entry)) ⌝ }
 {
@@ -223,5 +287,5 @@ pub fn perform<'a, 'b, K: Kind>(
         calls,
         &mut answers,
     );
-    Ok(Shift { net, book, answers })
+    Ok(handed_back(net, book, answers))
 }

@@ -120,10 +120,14 @@ pub enum Answer {
     NotTaken,
 }
 
-// What a list of calls leaves: the net, the book, and the answers in order.
+// What a list of calls leaves: whether the net is in service, its links and the records of the book, which lie at the
+// start of their tables, and the answers in order.
 #[derive(Drop)]
-pub struct Shift<'a, 'b, K: Kind> {
-    pub net: Net<'a, K>,
-    pub book: Book<'b>,
+pub struct Shift<'a, 'b, U: Copy> {
+    pub serving: bool,
+    pub link_count: usize,
+    pub links: &'a mut [Link<U>],
+    pub stream_count: usize,
+    pub streams: &'b mut [Stream],
     pub answers: Vec<Answer>,
 }

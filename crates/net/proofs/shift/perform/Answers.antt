@@ -3,7 +3,7 @@ use lib.ListN.{length}
 use Rattle.std.proofs.shelf.Results.{err-from-errBy}
 use Rattle.net.specs.Performed.{site-of}
 use Rattle.net.specs.Tables.{table}
-use Rattle.net.proofs.Ran.{new-matches}
+use Rattle.net.proofs.Ran.{new-matches, ran-as}
 use Rattle.net.proofs.Runs.{laws-of-run}
 use Rattle.net.proofs.shift.perform.Needs as need
 
@@ -25,7 +25,7 @@ returns g c =
     let book = c .new-book .result in
     let new = new-matches site (net .nodes) (table (net .count) (net .links .now)) (table (book .count) (book .streams .now)) links streams (c .new .ensures .nodes) (c .new .ensures .table) (c .new-book .ensures) refl refl in
     record {
-      ran = c .run-net .ensures .ran site new refl;
+      ran = ran-as (g .K·Kind .model) site _ _ _ _ (c .run-net .ensures .ran site new refl) _ _ _ _ (c .handed-back .ensures .serving) (c .handed-back .ensures .links) (c .handed-back .ensures .streams) (c .handed-back .ensures .answers);
       laws = laws-of-run (g .K·Kind .model) _ (g .K·Kind·met .laws) _;
       room = c .run-net .ensures .room;
     }

@@ -6,7 +6,7 @@ use lib.ListN.{length, take}
 use Rattle.std.proofs.shelf.Lists.{take-more}
 use lib.Seq.{take-all}
 use Rattle.std.specs.Of.Vec.{vec-items, vec-len, vec-cap}
-use Rattle.net.specs.Performed.{Ran}
+use Rattle.net.specs.Performed.{Sofar}
 use Rattle.net.specs.Tables.{table}
 use Rattle.net.proofs.Ran.{ran-more}
 use Rattle.net.proofs.shift.run.Needs as need
@@ -36,6 +36,6 @@ returns g c =
     let l = c .loop-i in
     let all = take-all (l .i) (c .args .calls .now) (omega (arith, l .kept .i-end)) in
     record {
-      ran = λ site h room. subst (λ cs. Ran (g .K·Kind .model) site cs (l .net) (table (l .book .count) (l .book .streams .now)) (vec-items (l .answers))) all (l .inv .ran site h room);
+      ran = λ site h room. subst (λ cs. Sofar (g .K·Kind .model) site cs (l .net) (table (l .book .count) (l .book .streams .now)) (vec-items (l .answers))) all (l .inv .ran site h room);
       room = l .inv .room;
     }

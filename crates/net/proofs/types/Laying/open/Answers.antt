@@ -13,8 +13,9 @@ returns g c =
     let m = g .K·Kind .model in
     let net = c .args .self in
     let t = table (net .count) (net .links .now) in
+    let done = c .into-service .ensures in
     record {
-      nodes = refl;
-      table = refl;
-      ledger = λ site calls b h. follows m site calls Open true (0, []) (net .nodes) t b (open-matches m site (after m site calls) (net .nodes) t b h) (0, []) (net .nodes) t b refl refl refl refl;
+      nodes = done .nodes;
+      table = done .table;
+      ledger = λ site calls b h. follows m site calls Open true (0, []) (net .nodes) t b (open-matches m site (after m site calls) (net .nodes) t b h) (0, []) _ _ b refl (done .nodes) (done .table) refl;
     }

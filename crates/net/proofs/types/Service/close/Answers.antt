@@ -21,12 +21,13 @@ returns g c =
     let book = c .args .book .now in
     let t = table (net .count) (net .links .now) in
     let b = table (book .count) (book .streams .now) in
-    let ended = c .in-use-ended .ensures ∙ sym (length-listed b 64) in
+    let ended = c .end-all-ended .ensures .ended ∙ sym (length-listed b 64) in
+    let left = c .end-all-ended .ensures .left ∙ put-none b in
     record {
       nodes = refl;
       table = refl;
       ended = ended;
-      left = put-none b;
+      left = left;
       ledger = λ site calls h.
-          follows m site calls Close false (0, length (listed 64 b) ∷ []) (net .nodes) t (put [] b) (close-matches m site (after m site calls) (net .nodes) t b h) _ (net .nodes) t _ (ap (λ n. (0, n ∷ [])) ended) refl refl (put-none b);
+          follows m site calls Close false (0, length (listed 64 b) ∷ []) (net .nodes) t (put [] b) (close-matches m site (after m site calls) (net .nodes) t b h) _ (net .nodes) t _ (ap (λ n. (0, n ∷ [])) ended) refl refl left;
     }
