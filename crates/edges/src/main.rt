@@ -1,4 +1,7 @@
 // Searches that show each kind of answer, over small nets.
+mod bookings;
+mod examples;
+
 ghost use mathlib.Core.Path.{_≡_};
 ghost use mathlib.Core.Bool.{cond};
 ghost use lib.Chars.{codes};
@@ -6,6 +9,9 @@ ghost use lib.ListN.{length};
 ghost use Rattle.search.specs.Answers.{answer};
 ghost use Rattle.search.specs.Rule.{asked};
 ghost use Rattle.edges.specs.Tells.{Tells};
+use bookings::show_bookings;
+use examples::examples;
+use examples::joined;
 use kinds::Budget;
 use kinds::BudgetKind;
 use kinds::BudgetUse;
@@ -198,13 +204,13 @@ fn any_price() -> Budget
 }
 
 fn show_delayed(rt: &LibcRuntime) -> io::Result<()> {
-    let kind = Pair {
-        first: any_price(),
-        second: Budget {
+    let kind = joined(
+        any_price(),
+        Budget {
             allowance: 1,
             limit: 11,
         },
-    };
+    );
     let mut table = [unused(kind.start()); MOST_PLACES];
     let links = [
         delayed(0, 1, 2, 3, 5),
@@ -387,7 +393,10 @@ fn show_allowance(rt: &LibcRuntime) -> io::Result<()> {
 }
 
 fn main(rt: LibcRuntime) -> io::Result<()> {
+    let examples = examples();
+    println!(rt, "worked examples that hold: {examples}")?;
     show_allowance(&rt)?;
     show_delayed(&rt)?;
-    show_gated(&rt)
+    show_gated(&rt)?;
+    show_bookings(&rt)
 }
