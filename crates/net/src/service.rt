@@ -2,7 +2,7 @@
 ghost use mathlib.Core.Path.{_≡_};
 ghost use mathlib.Core.Bool.{true, false, cond};
 ghost use mathlib.Core.List.{List, [], _∷_};
-ghost use Prim.Native.Nat.{ℕ, _-_, _≤_, min};
+ghost use Prim.Native.Nat.{ℕ, _-_, _≤_, _<_, min};
 ghost use lib.Dec.{eqb};
 ghost use lib.ListN.{length, take};
 ghost use Rattle.std.specs.Holes.{removed};
@@ -65,8 +65,18 @@ fn remove_stream(streams: &mut [Stream], count: usize, number: u16) -> Result<us
     if at >= count {
         return Err(NetFault::NoStream);
     }
+    Ok(take_one(streams, count, at))
+}
+
+// Takes the stream at a place out, and gives how many are left.
+fn take_one(streams: &mut [Stream], count: usize, at: usize) -> usize
+    requires { ⌜ at < count ⌝ ∗ ⌜ count ≤ length (now streams) ⌝ }
+    ensures count { λ r. ⌜ r ≡ count - 1 ⌝ }
+    ensures left { λ _. ⌜ now (streams .exit) ≡ stored (removed (take count (now (streams .entry))) at) (now (streams .entry)) ⌝ }
+{
     take_out(streams, count, at);
-    Ok(count - 1)
+    let left = count - 1;
+    left
 }
 
 fn place_among(streams: &[Stream], count: usize, number: u16) -> usize

@@ -1,4 +1,5 @@
 use mathlib.Core.Path.{_≡_, sym, ap, _∙_}
+use mathlib.Core.List.{[], _∷_}
 use Prim.Native.Nat.{_≤_, _<_}
 use native.Mathlib.Omega.{arith}
 use lib.ListN.{length, take}
@@ -28,6 +29,6 @@ returns c =
     let long = length-map standing (λ s. s .number) ∙ length-take-le (c .args .count) (c .args .streams .now) (omega arith) in
     let some : stream-refusal (numbers-of standing) (c .args .number) ≡ 0 = cond-true _ _ _ (lt-ltb (place-of (c .args .number) (numbers-of standing)) (length (numbers-of standing)) (omega (arith, c .place-among-at .ensures))) in
     record {
-      answer = sym (unless-none _ _ some);
-      left = c .take-out .ensures ∙ ap (λ i. stored (removed standing i) (c .args .streams .now)) (c .place-among-at .ensures) ∙ sym (cond-true _ _ _ (eq-eqb _ _ some));
+      answer = ap (λ n. (0, n ∷ [])) (c .take-one .ensures .count) ∙ sym (unless-none _ _ some);
+      left = c .take-one .ensures .left ∙ ap (λ i. stored (removed standing i) (c .args .streams .now)) (c .place-among-at .ensures) ∙ sym (cond-true _ _ _ (eq-eqb _ _ some));
     }
