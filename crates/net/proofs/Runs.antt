@@ -2,14 +2,16 @@
 use mathlib.Core.Path.{_≡_, refl, sym, ap, _∙_}
 use mathlib.Core.Bool.{Bool, true, false, cond}
 use mathlib.Core.List.{List, [], _∷_, _++_, map}
+use mathlib.Core.Logic.{⊎-elim}
 use Prim.Native.Nat.{ℕ, _≤_, min}
 use native.Mathlib.Omega.{arith}
+use lib.Dec.{eqb}
 use lib.ListN.{length, drop, length-append}
 use Rattle.std.specs.declared.option.Option.{Option}
 use Rattle.std.specs.declared.option.Option.the-variants.{Some, None}
 use Rattle.std.proofs.shelf.Elements.{all-weaker}
 use Rattle.std.proofs.shelf.Lists.{length-map, length-take}
-use Rattle.std.proofs.shelf.Tests.{cond-true, cond-false, eq-eqb, lt-ltb, le-ltb, ltb-true}
+use Rattle.std.proofs.shelf.Tests.{cases-bool, cond-true, cond-false, eq-eqb, eqb-true, eqb-false, lt-ltb, le-ltb, ltb-true}
 use Rattle.kinds.specs.Kinds.{Model, Laws}
 use Rattle.kinds.proofs.Views.{view-within}
 use Rattle.search.specs.Answers.{best}
@@ -18,9 +20,9 @@ use Rattle.search.specs.Rule.{Query, made}
 use Rattle.search.specs.declared.answer.Best.{Best}
 use Rattle.search.specs.declared.label.Link.{Link}
 use Rattle.search.proofs.Promised.{best-cheapest, best-none}
-use Rattle.net.specs.Laws.{uses-of, WithinLimits, WorstWithin, Kept, Searches, Fair, Laws-of-run}
-use Rattle.net.specs.Ledger.{Entry, Ledger, Site, asks, answer, entered, changed, after}
-use Rattle.net.specs.Questions.{found-of, search-told}
+use Rattle.net.specs.Laws.{uses-of, WithinLimits, WorstWithin, Kept, Searches, Fair, Accepted, Laws-of-run}
+use Rattle.net.specs.Ledger.{Entry, Ledger, Site, numbers, asks, answer, entered, changed, after}
+use Rattle.net.specs.Questions.{Told, node-count, book-refusal, found-of, search-told}
 use Rattle.net.specs.declared.types.Call.{Call}
 use Rattle.net.specs.declared.types.Call.the-variants.{Book}
 use Rattle.net.specs.declared.types.Request.{Request}
@@ -73,17 +75,32 @@ module _ {K S U : Type 0} (m : Model K S U) (site : Site) (laws : Laws m) where
         λ e. best-none m laws q (none-told _ _ (sym (ap (λ t. t .0) (told-fitting fits)) ∙ e)),
         λ none. ap (λ t. t .0) (told-fitting fits) ∙ none-found q _ refl _ none,
       );
-      some = λ e.
-          let (b, is, fits) = found _ (best m k (r .target) (made m q)) _ (sym (ap (λ t. t .0) told-by-search) ∙ e) in
-          let entry : Entry K = record { asked-for = r; kind = k; route = route-of (made m q) (b .label); figure = b .figure; hops = b .hops } in (
-            entry,
-            ap (λ t. t .streams) (cond-true _ (changed m site s (Book r k places)) s (eq-eqb _ _ e)) ∙ ap (λ o. s .streams ++ entered m site s k r o) is,
-            refl,
-            refl,
-            best-cheapest m laws q b is,
-            told-by-search ∙ cond-false _ _ _ fits ∙ ap (λ o. found-of o (length (made m q))) is,
-          );
     }
+
+    accepted-of : answer m site s (Book r k places) .0 ≡ 0 → Accepted m site s k r places
+    accepted-of e =
+        let (b, is, fits) = found _ (best m k (r .target) (made m q)) _ (sym (ap (λ t. t .0) told-by-search) ∙ e) in
+        let entry : Entry K = record { asked-for = r; kind = k; route = route-of (made m q) (b .label); figure = b .figure; hops = b .hops } in (
+          entry,
+          ap (λ t. t .streams) (cond-true _ (changed m site s (Book r k places)) s (eq-eqb _ _ e)) ∙ ap (λ o. s .streams ++ entered m site s k r o) is,
+          refl,
+          refl,
+          best-cheapest m laws q b is,
+          told-by-search ∙ cond-false _ _ _ fits ∙ ap (λ o. found-of o (length (made m q))) is,
+        )
+
+  -- an accepted booking passes the questions before the search
+  passed : (s : Ledger K U) (k : K) (r : Request) (places : ℕ) → answer m site s (Book r k places) .0 ≡ 0 → Searches m site s r
+  passed s k r places e =
+      ⊎-elim
+      (λ on.
+      let refusal = book-refusal (node-count (site .nodes)) (min 64 (site .stream-places)) (numbers (s .streams)) r in
+      ⊎-elim
+      (λ t. record { serving = on; passes = eqb-true refusal 0 t })
+      (λ t. absurd (eqb-false refusal 0 t (sym (ap (λ (x : Told). x .0) (cond-true _ _ _ on ∙ cond-false _ _ _ t)) ∙ e)))
+      (cases-bool (eqb refusal 0)))
+      (λ off. absurd (let z : 22 ≡ 0 = sym (ap (λ (x : Told). x .0) (cond-false _ _ _ off)) ∙ e in omega arith))
+      (cases-bool (s .serving))
 
   pub kept : (s : Ledger K U) → Sound m s → Kept m site s
   kept s h = record {
@@ -98,5 +115,6 @@ module _ {K S U : Type 0} (m : Model K S U) (site : Site) (laws : Laws m) where
   pub laws-of-run : (calls : List (Call K U)) → Laws-of-run m site calls
   laws-of-run calls = record {
     kept = λ front back is. kept (after m site front) (sound-after m site laws front);
+    cheapest = λ front r k places back is e. accepted-of (after m site front) k r places (passed (after m site front) k r places e) e;
     fair = λ front r k places back is searches. fair (after m site front) k r places searches;
   }

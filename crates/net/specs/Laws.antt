@@ -47,9 +47,14 @@ module _ {K S U : Type 0} (m : Model K S U) (site : Site) where
   pub record Fair (s : Ledger K U) (k : K) (r : Request) (places : ℕ) : Type 0 where
     pub full : (answer m site s (Book r k places) .0 ≡ 16) ↔ (min places (site .label-places) < length (made m (asks m site s k r)))
     pub none : length (made m (asks m site s k r)) ≤ min places (site .label-places) → (answer m site s (Book r k places) .0 ≡ 17) ↔ ((p : List ℕ) → Route m (asks m site s k r) p → ⊥)
-    pub some : answer m site s (Book r k places) .0 ≡ 0 → (e : Entry K) × (next m site s (Book r k places) .streams ≡ s .streams ++ e ∷ []) × (e .asked-for ≡ r) × (e .kind ≡ k) × Cheapest m (asks m site s k r) (e .route) (e .figure) (e .hops) × (answer m site s (Book r k places) ≡ (0, e .figure ∷ e .hops ∷ length (made m (asks m site s k r)) ∷ []))
+
+  -- what an accepted booking got: the stream entered has what was asked and the cheapest, then the shortest, of all routes
+  -- over the links open to it beforehand, and the answer has its figure, its hops and the count of labels
+  abbrev pub Accepted : Ledger K U → K → Request → ℕ → Type 0
+  Accepted s k r places = (e : Entry K) × (next m site s (Book r k places) .streams ≡ s .streams ++ e ∷ []) × (e .asked-for ≡ r) × (e .kind ≡ k) × Cheapest m (asks m site s k r) (e .route) (e .figure) (e .hops) × (answer m site s (Book r k places) ≡ (0, e .figure ∷ e .hops ∷ length (made m (asks m site s k r)) ∷ []))
 
   -- the laws over a run, at every point of it
   pub record Laws-of-run (calls : List (Call K U)) : Type 0 where
     pub kept : (front back : List (Call K U)) → calls ≡ front ++ back → Kept (after m site front)
+    pub cheapest : (front : List (Call K U)) (r : Request) (k : K) (places : ℕ) (back : List (Call K U)) → calls ≡ front ++ Book r k places ∷ back → answer m site (after m site front) (Book r k places) .0 ≡ 0 → Accepted (after m site front) k r places
     pub fair : (front : List (Call K U)) (r : Request) (k : K) (places : ℕ) (back : List (Call K U)) → calls ≡ front ++ Book r k places ∷ back → Searches (after m site front) r → Fair (after m site front) k r places
