@@ -1,4 +1,6 @@
 // Audits one route: what it comes to when the allowed number of links are at their worst together.
+#![tactic(auto)]
+
 use std::io;
 use std::io::Read;
 

@@ -1,4 +1,6 @@
 // Audits that show each kind of answer, on sheets of its own.
+#![tactic(auto)]
+
 use std::io;
 
 const SHEETS: [(&str, &[u8]); 10] = [

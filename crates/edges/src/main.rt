@@ -1,4 +1,6 @@
 // Searches that show each kind of answer, over small nets.
+#![tactic(auto)]
+
 mod bookings;
 mod examples;
 

@@ -1,4 +1,6 @@
 // The forms of order lines: what each line of an order file asks, or why it is refused.
+#![tactic(auto)]
+
 mod calls;
 mod fault;
 mod fields;

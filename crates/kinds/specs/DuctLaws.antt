@@ -2,7 +2,7 @@
 use Rattle.std.specs.Prelude.{◌≡◌, ℕ, Bool, true, false, cond, not, ◌||◌, ◌≢◌, bit_and, nat_lt, refl}
 use Rattle.std.proofs.Common.{⊎_elim}
 use Rattle.std.specs.Int.Bits.{and_self}
-use Rattle.std.proofs.lemmas.Bool.{and_from, and_parts, or_cases, or_left, or_right, eqb-true, eqb-false, eq-eqb, ne_eqb, not_true, not_from_false, not-false, both_ways, false≢true}
+use Rattle.std.proofs.lemmas.Bool.{and_from, and_parts, or_cases, or_left, or_right, eqb-true, eqb-false, eq-eqb, ne_eqb, not-true, not_from_false, not-false, both_ways, false≢true}
 use Rattle.kinds.specs.Kinds.{Laws}
 use Rattle.kinds.specs.Ducts.{has_duct, mask, pass, ducts_model}
 use Rattle.kinds.specs.declared.ducts.DuctState.{DuctState}
@@ -34,7 +34,7 @@ module _ (k : Ducts) (a b : DuctState) where
 -- a part has no duct that the whole has not
 has_more : (a b d : ℕ) → bit_and a b ≡ a → has_duct a d ≡ true → has_duct b d ≡ true
 has_more a b d p h =
-    not_from_false _ (ne_eqb _ _ (λ miss. eqb-false _ _ (not_true _ h) (part_misses a b (mask d) p miss)))
+    not_from_false _ (ne_eqb _ _ (λ miss. eqb-false _ _ (not-true _ h) (part_misses a b (mask d) p miss)))
 
 pass_both : (a b : DuctState) (d : ℕ) → Smaller a b → Smaller (pass a d) (pass b d)
 pass_both a b d h = record {
@@ -71,7 +71,7 @@ ducts_laws = record {
 }
   where
     kept : (a b : DuctState) → Smaller a b → not b.doubled ≡ true → not a.doubled ≡ true
-    kept a b h q = clear_from a.doubled (λ e. both_ways b.doubled (not_true _ q) (h.clear e))
+    kept a b h q = clear_from a.doubled (λ e. both_ways b.doubled (not-true _ q) (h.clear e))
       where
         clear_from : (x : Bool) → (x ≢ true) → not x ≡ true
         clear_from true h = absurd (h refl)

@@ -1,4 +1,6 @@
 // Kinds of limit: what a kind is, the laws it keeps, and the four kinds of the planner.
+#![tactic(auto)]
+
 mod budget;
 mod clock;
 mod ducts;

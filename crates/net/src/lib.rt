@@ -1,4 +1,6 @@
 // A net of links, the book of its streams, and the calls on both.
+#![tactic(auto)]
+
 mod laying;
 mod service;
 mod shift;

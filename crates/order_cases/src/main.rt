@@ -1,5 +1,7 @@
 // Order files at the edges of the rules: each with its answers, held to those that the rules give.
 // Among them is every refusal but 19: a show has sixteen places of its own, as many as a route can have links.
+#![tactic(auto)]
+
 use orders::answer_file;
 use std::alloc::{AllocError, Global};
 use std::io;

@@ -1,4 +1,6 @@
 // Answers an order file: reads it from standard input and writes a line for each of its lines.
+#![tactic(auto)]
+
 use anyhow::anyhow;
 use orders::answer_file;
 use std::io::Read;

@@ -1,4 +1,6 @@
 // Order files: the bytes of a file to the bytes of its answers.
+#![tactic(auto)]
+
 mod fault;
 mod file;
 mod lines;

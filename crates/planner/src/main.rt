@@ -1,4 +1,6 @@
 // A shift on a small net: lays it, opens it, books, releases, shows and closes, and prints each call with its answer.
+#![tactic(auto)]
+
 ghost use Rattle.std.specs.Prelude.{◌≡◌};
 
 use kinds::{Budget, BudgetUse, Kind, Pair, PairUse};

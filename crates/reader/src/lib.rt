@@ -1,4 +1,6 @@
 // Reads the lines and fields of a text that is lent: each field is a part of the text.
+#![tactic(auto)]
+
 ghost use Rattle.std.specs.Prelude.{◌≤◌, length};
 
 mod cut;

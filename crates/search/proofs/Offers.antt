@@ -1,7 +1,7 @@
 -- One candidate against a list of labels. Assumes nothing.
 use Rattle.std.proofs.Common.{◌≡◌, ℕ, ◌+◌, ◌<◌, ◌≤◌, Bool, true, false, cond, not, ◌&&◌, ◌||◌, eqb, List, [], ◌∷◌, ◌++◌, length, get_or, take, drop, Some, None, Option, sym, refl, ap, ◌∙◌, ⊎_elim, append_assoc, append-nil, arith, length-append}
 use Rattle.std.proofs.lemmas.List.{at_drop_more, at_drop_all, drop_more, drop_all, get_or_append_left, take-append-le}
-use Rattle.std.proofs.lemmas.Bool.{cond-true, cond-false, not_true, not-false, and_left, and_right, and_from, eq-eqb, ne_eqb, cases_lt}
+use Rattle.std.proofs.lemmas.Bool.{cond-true, cond-false, not-true, not-false, and_left, and_right, and_from, eq-eqb, ne_eqb, cases_lt}
 use Rattle.kinds.specs.Kinds.{Model}
 use Rattle.search.specs.Rule.{is_open, candidate, beats, beaten, offered, tried, tries}
 use Rattle.search.specs.declared.label.Label.{Label}
@@ -13,7 +13,7 @@ module _ {K S U : Type 0} (m : Model K S U) (k : K) (c : Label S) where
       at_drop_more (beaten m k c) ls i l lt ∙ ap (λ x. beats m k x c || beaten m k c (drop (i + 1) ls)) (sym read)
 
   pub offered_dropped : (ls : List (Label S)) → not (m.within k c.state && not (beaten m k c ls)) ≡ true → offered m k c ls ≡ ls
-  offered_dropped ls h = cond-false _ _ _ (not_true _ h)
+  offered_dropped ls h = cond-false _ _ _ (not-true _ h)
 
   pub offered_kept : (ls : List (Label S)) → not (m.within k c.state && not (beaten m k c ls)) ≡ false → offered m k c ls ≡ ls ++ c ∷ []
   offered_kept ls h = cond-true _ _ _ (not-false _ h)

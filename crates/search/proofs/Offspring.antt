@@ -3,7 +3,7 @@ use Rattle.std.proofs.Common.{◌≡◌, ℕ, zero, suc, ◌+◌, ◌<◌, ◌�
 use Rattle.std.specs.List.{AllByRecursion as All}
 use Rattle.std.proofs.lemmas.List.{get_or_default}
 use Rattle.std.proofs.ByRecursion.{All-weaker, All-append}
-use Rattle.std.proofs.lemmas.Bool.{cases_Bool, cond-true, cond-false, and_parts, and_from, or_parts, or_left, or_right, or_cases, and_right, not_true, not_from_true, not_from_false, eqb-true, eq-eqb, le-leb, leb-true, both_ways, cases_lt}
+use Rattle.std.proofs.lemmas.Bool.{cases_Bool, cond-true, cond-false, and_parts, and_from, or_parts, or_left, or_right, or_cases, and_right, not-true, not_from_true, not_from_false, eqb-true, eq-eqb, le-leb, leb-true, both_ways, cases_lt}
 use Rattle.kinds.specs.Kinds.{Model, Laws}
 use Rattle.search.specs.Rule.{is_open, candidate, beats, beaten, offered, tried, tries}
 use Rattle.search.specs.declared.label.Label.{Label}
@@ -80,7 +80,7 @@ module _ {K S U : Type 0} (m : Model K S U) (k : K) (flags : List Bool) (n : ℕ
       record {
         more = c ∷ [];
         is = cond-true _ _ _ tries-it ∙ cond-true _ _ _ keeps;
-        each = (record { number = i; link = link; inside = lt; read = read; opened = parts.0; starts = eqb-true _ _ parts.1; is = refl; within = kept.0; unbeaten = not_true _ kept.1 }, tt);
+        each = (record { number = i; link = link; inside = lt; read = read; opened = parts.0; starts = eqb-true _ _ parts.1; is = refl; within = kept.0; unbeaten = not-true _ kept.1 }, tt);
       })
       (λ drops. record { more = []; is = cond-true _ _ _ tries-it ∙ cond-false _ _ _ drops ∙ sym (append-nil ls); each = tt })
       (cases_Bool (m.within k c.state && not (beaten m k c ls))))

@@ -1,4 +1,6 @@
 // The label search: the cheapest route within limits over the open links of a net.
+#![tactic(auto)]
+
 mod answer;
 mod back;
 mod best;

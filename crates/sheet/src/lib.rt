@@ -1,4 +1,6 @@
 // Route sheets: what one route comes to at its worst, from the bytes of a sheet.
+#![tactic(auto)]
+
 ghost use Rattle.sheet.specs.Audits.{Audited};
 
 mod audits;

@@ -5,4 +5,4 @@ use Rattle.kinds.proofs.pair.Pair.both_along.Goals as goal
 
 pub returns : goal.returns
 returns g c =
-    subst (Parts _ _ _ _) (sym c.state-along.ensures) (parts g.A.Kind.model g.B.Kind.model c.args.self.now c.args.uses.now)
+    subst (Parts _ _ _ _) (sym c.state_along.ensures) (parts g.A.Kind.model g.B.Kind.model c.args.self.now c.args.uses.now)
