@@ -9,4 +9,4 @@ with-more [] more h h' = h'
 with-more (r ∷ rs) more h h' = (h.0, with-more rs more h.1 h')
 
 pub returns : goal.returns
-returns c = record { hold = with-more kind_rows (opens 100 60 40 true ∷ opens 100 60 41 false ∷ []) c.worked-examples.ensures.hold (refl, (refl, tt)); count = ap (λ n. n + 2) c.worked-examples.ensures.count }
+returns c = record { hold = with-more kind_rows (opens 100 60 40 true ∷ opens 100 60 41 false ∷ []) c.worked_examples.ensures.hold (refl, (refl, tt)); count = ap (λ n. n + 2) c.worked_examples.ensures.count }

@@ -13,7 +13,7 @@ pub returns-then-at-count : goal.returns-then-at-count
 returns-then-at-count c =
     let standing = take c.args.count c.args.streams.now in
     let long = length-map standing (λ s. s.number) ∙ length-take-le c.args.count c.args.streams.now (omega arith) in
-    let none : stream_refusal (numbers_of standing) c.args.number ≡ 18 = cond-false _ _ _ (le-ltb (place_of c.args.number (numbers_of standing)) (length (numbers_of standing)) (omega (arith, c.place-among-at.ensures))) in
+    let none : stream_refusal (numbers_of standing) c.args.number ≡ 18 = cond-false _ _ _ (le-ltb (place_of c.args.number (numbers_of standing)) (length (numbers_of standing)) (omega (arith, c.place_among-at.ensures))) in
     record {
       answer = sym (unless_refused _ 17 _ none);
       left = sym (cond-false _ _ _ (ne_eqb (stream_refusal (numbers_of standing) c.args.number) 0 (λ z. omega arith)));
@@ -23,8 +23,8 @@ pub returns : goal.returns
 returns c =
     let standing = take c.args.count c.args.streams.now in
     let long = length-map standing (λ s. s.number) ∙ length-take-le c.args.count c.args.streams.now (omega arith) in
-    let some : stream_refusal (numbers_of standing) c.args.number ≡ 0 = cond-true _ _ _ (lt-ltb (place_of c.args.number (numbers_of standing)) (length (numbers_of standing)) (omega (arith, c.place-among-at.ensures))) in
+    let some : stream_refusal (numbers_of standing) c.args.number ≡ 0 = cond-true _ _ _ (lt-ltb (place_of c.args.number (numbers_of standing)) (length (numbers_of standing)) (omega (arith, c.place_among-at.ensures))) in
     record {
-      answer = ap (λ n. (0, n ∷ [])) c.take-one.ensures.count ∙ sym (unless_none _ _ some);
-      left = c.take-one.ensures.left ∙ ap (λ i. stored (remove standing i) c.args.streams.now) c.place-among-at.ensures ∙ sym (cond-true _ _ _ (eq-eqb _ _ some));
+      answer = ap (λ n. (0, n ∷ [])) c.take_one.ensures.count ∙ sym (unless_none _ _ some);
+      left = c.take_one.ensures.left ∙ ap (λ i. stored (remove standing i) c.args.streams.now) c.place_among-at.ensures ∙ sym (cond-true _ _ _ (eq-eqb _ _ some));
     }

@@ -8,7 +8,7 @@ pub returns-then-at-count : goal.returns-then-at-count
 returns-then-at-count c =
     let standing = take c.args.count c.args.streams.now in
     let long = length-take-le c.args.count c.args.streams.now (omega arith) in
-    let none = bearing_none c.args.number standing (omega (arith, c.place-among-at.ensures)) in
+    let none = bearing_none c.args.number standing (omega (arith, c.place_among-at.ensures)) in
     record {
       answer = sym (ap (λ ss. show_told_of ss (length c.args.places.now)) none);
       list = sym (ap (λ ss. show_list_of ss c.args.places.now) none);
@@ -18,8 +18,8 @@ pub returns-in-None : goal.returns-in-None
 returns-in-None c =
     let standing = take c.args.count c.args.streams.now in
     let long = length-take-le c.args.count c.args.streams.now (omega arith) in
-    let at = c.place-among-at.result in
-    let some : bearing c.args.number standing ≡ get_or c.args.streams.now at _ ∷ [] = bearing_at c.args.number standing at _ (sym c.place-among-at.ensures) (omega arith) ∙ ap (λ s. s ∷ []) (get_or-take c.args.count c.args.streams.now at _ c.if-at-count.false) in
+    let at = c.place_among-at.result in
+    let some : bearing c.args.number standing ≡ get_or c.args.streams.now at _ ∷ [] = bearing_at c.args.number standing at _ (sym c.place_among-at.ensures) (omega arith) ∙ ap (λ s. s ∷ []) (get_or-take c.args.count c.args.streams.now at _ c.if-at-count.false) in
     record {
       answer = c.in-None.ensures.answer ∙ sym (ap (λ ss. show_told_of ss (length c.args.places.now)) some);
       list = c.in-None.ensures.list ∙ sym (ap (λ ss. show_list_of ss c.args.places.now) some);
@@ -29,8 +29,8 @@ pub returns-in-Some : goal.returns-in-Some
 returns-in-Some c =
     let standing = take c.args.count c.args.streams.now in
     let long = length-take-le c.args.count c.args.streams.now (omega arith) in
-    let at = c.place-among-at.result in
-    let some : bearing c.args.number standing ≡ get_or c.args.streams.now at _ ∷ [] = bearing_at c.args.number standing at _ (sym c.place-among-at.ensures) (omega arith) ∙ ap (λ s. s ∷ []) (get_or-take c.args.count c.args.streams.now at _ c.if-at-count.false) in
+    let at = c.place_among-at.result in
+    let some : bearing c.args.number standing ≡ get_or c.args.streams.now at _ ∷ [] = bearing_at c.args.number standing at _ (sym c.place_among-at.ensures) (omega arith) ∙ ap (λ s. s ∷ []) (get_or-take c.args.count c.args.streams.now at _ c.if-at-count.false) in
     record {
       answer = c.in-Some.ensures.answer ∙ sym (ap (λ ss. show_told_of ss (length c.args.places.now)) some);
       list = c.in-Some.ensures.list ∙ sym (ap (λ ss. show_list_of ss c.args.places.now) some);

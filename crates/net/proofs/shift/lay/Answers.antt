@@ -23,10 +23,10 @@ returns-in-Open g c =
     λ site calls b h.
     follows_as g.K.Kind.model site calls Open true (0, []) net.nodes (table net.count net.links.now) b (c.open.ensures.ledger site calls b h) c.args.call.now (0, []) c.in-Open.is refl
 
-pub returns-in-default : goal.returns-in-default
-returns-in-default g c =
+pub returns-in_default : goal.returns-in_default
+returns-in_default g c =
     let net = c.args.net in
     λ site calls b h.
     let s = after g.K.Kind.model site calls in
     not_taken g.K.Kind.model site calls c.args.call.now false net.nodes (table net.count net.links.now) b h
-    (not_laid g.K.Kind.model site s h.serving_is c.args.call.now c.in-default.not-Add c.in-default.not-Withdraw c.in-default.not-Open)
+    (not_laid g.K.Kind.model site s h.serving_is c.args.call.now c.in_default.not-Add c.in_default.not-Withdraw c.in_default.not-Open)

@@ -6,9 +6,9 @@ use Rattle.net.proofs.Ran.{new_matches, ran_as}
 use Rattle.net.proofs.Runs.{laws_of_run}
 use Rattle.net.proofs.shift.perform.Goals as goal
 
-pub returns-in-err-answers : goal.returns-in-err-answers
-returns-in-err-answers g c =
-    let p = err_from_is_err_and c.from-residual.result c.from-residual.ensures.1 in
+pub returns-in_err-answers : goal.returns-in_err-answers
+returns-in_err-answers g c =
+    let p = err_from_is_err_and c.from_residual.result c.from_residual.ensures.1 in
     record {
       ran = rw p.1 tt;
       laws = laws_of_run g.K.Kind.model _ g.met.K.Kind.laws _;
@@ -25,7 +25,7 @@ returns g c =
     let book = c.new-book.result in
     let new = new_matches site net.nodes (table net.count net.links.now) (table book.count book.streams.now) links streams c.new.ensures.nodes c.new.ensures.table c.new-book.ensures refl refl in
     record {
-      ran = ran_as g.K.Kind.model site _ _ _ _ (c.run-net.ensures.ran site new refl) _ _ _ _ c.handed-back.ensures.serving c.handed-back.ensures.links c.handed-back.ensures.streams c.handed-back.ensures.answers;
+      ran = ran_as g.K.Kind.model site _ _ _ _ (c.run-net.ensures.ran site new refl) _ _ _ _ c.handed_back.ensures.serving c.handed_back.ensures.links c.handed_back.ensures.streams c.handed_back.ensures.answers;
       laws = laws_of_run g.K.Kind.model _ g.met.K.Kind.laws _;
       room = c.run-net.ensures.room;
       labels = c.run-net.ensures.labels site new refl;

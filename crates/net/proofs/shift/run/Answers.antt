@@ -16,7 +16,7 @@ loop-i-preserved g c =
     let calls = c.args.calls.now in
     let call = c.index-calls-i.result in
     let more : take (l.i + 1) calls ≡ take l.i calls ++ call ∷ [] = take_more calls l.i call (omega (arith, c.loop-i-test.true)) ∙ ap (λ x. take l.i calls ++ x ∷ []) (sym c.index-calls-i.is) in
-    let pushed = c.push-reserved.ensures in
+    let pushed = c.push_reserved.ensures in
     record {
       long = omega (arith, pushed.len, inv.long);
       enough = omega (arith, pushed.capacity, inv.enough);
@@ -24,7 +24,7 @@ loop-i-preserved g c =
       ran = λ site h room.
           let before = inv.ran site h room in
           ran_more g.K.Kind.model site (take l.i calls) (take (l.i + 1) calls) call more l.net (table l.book.count l.book.streams.now) (vec_items l.answers) before
-          c.step-next.result.0 (table c.step-next.new.book.count c.step-next.new.book.streams.now) c.step-next.result.1 (vec_items c.push-reserved.new.self) pushed.items
+          c.step-next.result.0 (table c.step-next.new.book.count c.step-next.new.book.streams.now) c.step-next.result.1 (vec_items c.push_reserved.new.self) pushed.items
           (done.ledger site (take l.i calls) before.matches (room ∙ sym inv.room));
       labels = λ site h room.
           let m = g.K.Kind.model in

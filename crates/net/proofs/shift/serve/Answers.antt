@@ -10,14 +10,14 @@ use Rattle.net.proofs.shift.serve.Goals as goal
 pub returns-in-Book : goal.returns-in-Book
 returns-in-Book g c =
     let net = c.args.net in
-    let book = c.book-within-answer.new.book in
+    let book = c.book_within-answer.new.book in
     record {
       ledger = λ site calls h room.
           follows_as g.K.Kind.model site calls (Book c.in-Book.request c.in-Book.kind c.in-Book.places) true _ net.nodes (table net.count net.links.now) (table book.count book.streams.now)
-          (c.book-within-answer.ensures.ledger site calls h room) c.args.call.now _ c.in-Book.is refl;
-      room = c.book-within-answer.ensures.room;
+          (c.book_within-answer.ensures.ledger site calls h room) c.args.call.now _ c.in-Book.is refl;
+      room = c.book_within-answer.ensures.room;
       labels = λ site calls h.
-          c.book-within-answer.ensures.labels site calls h
+          c.book_within-answer.ensures.labels site calls h
           ∙ ap (λ x. labels_next g.K.Kind.model site (after g.K.Kind.model site calls) x c.args.labels.now) (sym c.in-Book.is);
     }
 
@@ -40,7 +40,7 @@ returns-in-Show g c =
     record {
       ledger = λ site calls h room.
           follows_as g.K.Kind.model site calls (Show c.in-Show.stream) true _ net.nodes (table net.count net.links.now) (table book.count book.streams.now)
-          (c.show-whole-answer.ensures site calls h) c.args.call.now _ c.in-Show.is refl;
+          (c.show_whole-answer.ensures site calls h) c.args.call.now _ c.in-Show.is refl;
       room = refl;
       labels = λ site calls h. ap (λ x. labels_next g.K.Kind.model site (after g.K.Kind.model site calls) x c.args.labels.now) (sym c.in-Show.is);
     }
@@ -69,11 +69,11 @@ returns-in-Close g c =
       labels = λ site calls h. ap (λ x. labels_next g.K.Kind.model site (after g.K.Kind.model site calls) x c.args.labels.now) (sym c.in-Close.is);
     }
 
-pub returns-in-default : goal.returns-in-default
-returns-in-default g c =
+pub returns-in_default : goal.returns-in_default
+returns-in_default g c =
     let net = c.args.net in
     let book = c.args.book.now in
-    let n = c.in-default in
+    let n = c.in_default in
     record {
       ledger = λ site calls h room.
           let s = after g.K.Kind.model site calls in

@@ -10,4 +10,4 @@ returns g c =
     λ site calls h.
     let done = c.show-record.ensures.ledger site calls h in
     let measured = sound_measured m (after m site calls) (sound_after m site g.met.K.Kind.laws calls) in
-    (c.shown-with.ensures ∙ done.0 ∙ show_whole_is m site c.args.stream (after m site calls) measured, done.1)
+    (c.shown_with.ensures ∙ done.0 ∙ show_whole_is m site c.args.stream (after m site calls) measured, done.1)

@@ -11,10 +11,10 @@ pub loop-i-preserved : goal.loop-i-preserved
 loop-i-preserved g c =
     let ld = load c.args.streams.now in
     let link = c.index-links-i.result in
-    written_more (flags_for ld c.args.rate c.args.links.now) c.loop-i.i c.args.flags.now c.loop-i.flags c.has-room.result (omega arith)
+    written_more (flags_for ld c.args.rate c.args.links.now) c.loop-i.i c.args.flags.now c.loop-i.flags c.has_room.result (omega arith)
     (λ d.
-    c.has-room.ensures
-    ∙ ap (λ x. is_open_to link.capacity x c.args.rate) c.load-of.ensures.value
+    c.has_room.ensures
+    ∙ ap (λ x. is_open_to link.capacity x c.args.rate) c.load_of.ensures.value
     ∙ ap (λ x. is_open_to x.capacity (ld c.loop-i.i) c.args.rate) c.index-links-i.is
     ∙ sym (flag_of ld c.args.rate c.args.links.now c.loop-i.i d link c.loop-i-test.true))
     c.loop-i.invariant

@@ -10,8 +10,8 @@ returns-then-fits c =
     let text = c.args.text.now in
     let few = sym c.if-fits.ensures in
     record {
-      answers = IfOk-weaker c.answer-lines.result _ (λ out. string_bytes out ≡ answers_of text) (λ out served. served.texts ∙ sym (cond-true _ _ _ few)) c.answer-lines.ensures;
-      laws = IfOk-weaker c.answer-lines.result _ (λ out. LawsOfFile text) (λ out served. laws_of_file text (subst Promised (sym (cond-true _ _ _ few)) served.promised)) c.answer-lines.ensures;
+      answers = IfOk-weaker c.answer_lines.result _ (λ out. string_bytes out ≡ answers_of text) (λ out served. served.texts ∙ sym (cond-true _ _ _ few)) c.answer_lines.ensures;
+      laws = IfOk-weaker c.answer_lines.result _ (λ out. LawsOfFile text) (λ out served. laws_of_file text (subst Promised (sym (cond-true _ _ _ few)) served.promised)) c.answer_lines.ensures;
     }
 
 pub returns-else-fits : goal.returns-else-fits
@@ -19,6 +19,6 @@ returns-else-fits c =
     let text = c.args.text.now in
     let more = sym c.if-fits.ensures in
     record {
-      answers = IfOk-weaker c.refuse-file.result _ (λ out. string_bytes out ≡ answers_of text) (λ out is. is ∙ sym (cond-false _ _ _ more)) c.refuse-file.ensures;
-      laws = IfOk-weaker c.refuse-file.result _ (λ out. LawsOfFile text) (λ out is. laws_of_file text (subst Promised (sym (cond-false _ _ _ more)) tt)) c.refuse-file.ensures;
+      answers = IfOk-weaker c.refuse_file.result _ (λ out. string_bytes out ≡ answers_of text) (λ out is. is ∙ sym (cond-false _ _ _ more)) c.refuse_file.ensures;
+      laws = IfOk-weaker c.refuse_file.result _ (λ out. LawsOfFile text) (λ out is. laws_of_file text (subst Promised (sym (cond-false _ _ _ more)) tt)) c.refuse_file.ensures;
     }

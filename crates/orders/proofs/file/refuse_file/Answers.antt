@@ -3,4 +3,4 @@ use Rattle.orders.specs.Files.{too_long}
 use Rattle.orders.proofs.file.refuse_file.Goals as goal
 
 pub returns : goal.returns
-returns c = c.in-ok-push-str.ensures.bytes ∙ ap (λ b. b ++ too_long) c.new-out.ensures.bytes
+returns c = c.in_ok-push_str.ensures.bytes ∙ ap (λ b. b ++ too_long) c.new-out.ensures.bytes

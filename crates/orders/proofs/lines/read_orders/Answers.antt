@@ -8,13 +8,13 @@ use Rattle.orders.proofs.lines.read_orders.Goals as goal
 pub loop-number-preserved : goal.loop-number-preserved
 loop-number-preserved g c =
     let step = c.in-Some.ensures.step in
-    let line = c.read-line-read.ensures.line in
-    let noted = c.in-ok-note.ensures in
-    one_read _ _ _ _ _ _ _ _ c.loop-number.invariant _ _ (read_as c.read-line-read.result) step.was (c.read-line-read.ensures.told ∙ ap (line_call g.K.SiteKind.form c.loop-number.serving) step.opened) _ _ _ _ _ noted.calls (noted.lines ∙ ap (λ n. map entry_of (vec_items c.loop-number.orders.lines) ++ (n, refusal_in (read_as c.read-line-read.result)) ∷ []) step.counted) c.state-by-serving.ensures line.0 (line.1 ∙ step.kept ∙ step.counted)
+    let line = c.read_line-read.ensures.line in
+    let noted = c.in_ok-note.ensures in
+    one_read _ _ _ _ _ _ _ _ c.loop-number.invariant _ _ (read_as c.read_line-read.result) step.was (c.read_line-read.ensures.told ∙ ap (line_call g.K.SiteKind.form c.loop-number.serving) step.opened) _ _ _ _ _ noted.calls (noted.lines ∙ ap (λ n. map entry_of (vec_items c.loop-number.orders.lines) ++ (n, refusal_in (read_as c.read_line-read.result)) ∷ []) step.counted) c.state_by-serving.ensures line.0 (line.1 ∙ step.kept ∙ step.counted)
 
 pub returns : goal.returns
 returns g c =
-    let end = c.in-default.ensures.step.0 in
+    let end = c.in_default.ensures.step.0 in
     record {
       calls = calls_read _ _ _ _ _ _ _ _ c.loop-number.invariant end;
       lines = entries_read _ _ _ _ _ _ _ _ c.loop-number.invariant end;

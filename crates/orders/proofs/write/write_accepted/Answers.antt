@@ -4,4 +4,4 @@ use Rattle.orders.proofs.write.write_accepted.Goals as goal
 
 pub returns : goal.returns
 returns c =
-    accepted_line (string_bytes c.args.out.now) _ _ _ (decimal c.args.line) _ c.in-ok-write-ok.ensures c.in-ok-write-values.ensures c.in-ok-push-str.ensures.bytes
+    accepted_line (string_bytes c.args.out.now) _ _ _ (decimal c.args.line) _ c.in_ok-write_ok.ensures c.in_ok-write_values.ensures c.in_ok-push_str.ensures.bytes

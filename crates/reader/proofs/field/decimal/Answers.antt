@@ -3,13 +3,13 @@ use Rattle.reader.specs.Reading.{value_after}
 use Rattle.reader.proofs.Readings.{all_more, all_stops, all_ends, value_more, value_ends, digit_fits}
 use Rattle.reader.proofs.field.decimal.Goals as goal
 
-pub returns-in-err-value : goal.returns-in-err-value
-returns-in-err-value c =
-    simp c.from-residual.ensures (sym c.loop-b.invariant.0 ∙ all_stops _ _ _ c.loop-b-test.true c.in-err-value.ensures)
+pub returns-in_err-value : goal.returns-in_err-value
+returns-in_err-value c =
+    simp c.from_residual.ensures (sym c.loop-b.invariant.0 ∙ all_stops _ _ _ c.loop-b-test.true c.in_err-value.ensures)
 
 pub loop-b-preserved : goal.loop-b-preserved
 loop-b-preserved c =
-    let read = c.in-ok-value.ensures in
+    let read = c.in_ok-value.ensures in
     let rest = drop (c.loop-b.b-index + 1) c.args.bytes.now in (
       sym (all_more _ _ _ c.loop-b-test.true read.0) ∙ c.loop-b.invariant.0,
       ap (λ d. value_after (c.loop-b.value * 10 + d) rest) read.1 ∙ sym (value_more _ _ _ c.loop-b-test.true) ∙ c.loop-b.invariant.1,

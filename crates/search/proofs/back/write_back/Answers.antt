@@ -8,7 +8,7 @@ loop-left-init g c = (omega arith, refl)
 
 pub loop-left-preserved : goal.loop-left-preserved
 loop-left-preserved g c =
-    (omega arith, ap (λ ps. way (c.loop-left.left - 1) c.args.labels.now c.from-at-at.result ++ drop (c.loop-left.left - 1) ps) c.write-link.ensures ∙ way_step c.args.labels.now c.loop-left.left c.loop-left.at c.loop-left.places c.link-at.result c.from-at-at.result c.loop-left-test.true (omega (arith, c.loop-left.auto.places)) c.link-at.ensures c.from-at-at.ensures ∙ c.loop-left.invariant.1)
+    (omega arith, ap (λ ps. way (c.loop-left.left - 1) c.args.labels.now c.from_at-at.result ++ drop (c.loop-left.left - 1) ps) c.write_link.ensures ∙ way_step c.args.labels.now c.loop-left.left c.loop-left.at c.loop-left.places c.link_at.result c.from_at-at.result c.loop-left-test.true (omega (arith, c.loop-left.auto.places)) c.link_at.ensures c.from_at-at.ensures ∙ c.loop-left.invariant.1)
 
 pub returns : goal.returns
 returns g c =

@@ -4,14 +4,14 @@ use Rattle.search.specs.Rule.{beaten}
 use Rattle.search.proofs.Offers.{beaten-drop}
 use Rattle.search.proofs.rounds.is_beaten.Goals as goal
 
-pub returns-then-does-beat : goal.returns-then-does-beat
-returns-then-does-beat g c =
+pub returns-then-does_beat : goal.returns-then-does_beat
+returns-then-does_beat g c =
     let m = g.K.Kind.model in
     let k = c.args.kind.now in
     let label = c.args.label.now in
     let labels = c.args.labels.now in
     let i = c.loop-other.other-index in
-    ap (λ t. t || beaten m k label (drop (i + 1) labels)) c.if-does-beat.ensures
+    ap (λ t. t || beaten m k label (drop (i + 1) labels)) c.if-does_beat.ensures
     ∙ sym (beaten-drop m k label labels i c.other-item.result c.loop-other-test.true c.other-item.is)
     ∙ c.loop-other.invariant
 
@@ -22,7 +22,7 @@ loop-other-preserved g c =
     let label = c.args.label.now in
     let labels = c.args.labels.now in
     let i = c.loop-other.other-index in
-    ap (λ t. t || beaten m k label (drop (i + 1) labels)) c.if-does-beat.ensures
+    ap (λ t. t || beaten m k label (drop (i + 1) labels)) c.if-does_beat.ensures
     ∙ sym (beaten-drop m k label labels i c.other-item.result c.loop-other-test.true c.other-item.is)
     ∙ c.loop-other.invariant
 

@@ -20,4 +20,4 @@ returns g c links flags target hop_limit =
     let within = ap (m.within k) (sym c.start-state.ensures) ∙ sym c.within.ensures ∙ c.if-not-within.false in
     stores_at c.args.labels.now
     (cond-true _ _ _ within ∙ ap (λ s. record { node = c.args.source; hops = 0; state = s; from = 0; link = 0 } ∷ []) (sym c.start-state.ensures))
-    (stores_one c.args.labels.now 0 (record { node = c.args.source; hops = 0; state = c.start-state.result; from = 0; link = 0 }) (positive _ (eqb-false _ _ (sym c.if-is-empty.ensures))))
+    (stores_one c.args.labels.now 0 (record { node = c.args.source; hops = 0; state = c.start-state.result; from = 0; link = 0 }) (positive _ (eqb-false _ _ (sym c.if-is_empty.ensures))))

@@ -23,8 +23,8 @@ returns-then-labels-next-2 g c source =
     stores_at table (turn_at_limit g.K.Kind.model (asked c.args.kind.now c.args.links.now c.args.flags.now source c.args.target c.args.hop_limit) c.args.next c.args.count table (omega arith) (omega arith) c.index-labels-next-2.result c.if-labels-next-2.true)
     (stores_none table c.args.count (omega arith))
 
-pub try-links-requires : goal.try-links-requires
-try-links-requires g c =
+pub try_links-requires : goal.try_links-requires
+try_links-requires g c =
     let table = c.args.labels.now in
     (omega arith, (omega arith, λ d. let same = get_or_default table c.args.next c.index-labels-next-2.result d (omega arith) in small (subst (λ x. x.hops < c.args.hop_limit) same c.if-labels-next-2.false) c.ranges.hop_limit.fits))
   where
@@ -35,4 +35,4 @@ pub returns : goal.returns
 returns g c source =
     let table = c.args.labels.now in
     stores_at table (turn_on g.K.Kind.model (asked c.args.kind.now c.args.links.now c.args.flags.now source c.args.target c.args.hop_limit) c.args.next c.args.count table (omega arith) (omega arith) c.index-labels-next.result c.index-labels-next-2.result c.if-labels-next.false c.if-labels-next-2.false)
-    (c.try-links.ensures _)
+    (c.try_links.ensures _)

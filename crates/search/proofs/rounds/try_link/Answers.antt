@@ -5,10 +5,10 @@ use Rattle.search.proofs.Offers.{tried_shut, tried_elsewhere, tried_over, number
 use Rattle.search.proofs.Storing.{stores_at, stores_none}
 use Rattle.search.proofs.rounds.try_link.Goals as goal
 
-pub returns-in-default : goal.returns-in-default
-returns-in-default g c d =
+pub returns-in_default : goal.returns-in_default
+returns-in_default g c d =
     let table = c.args.labels.now in
-    let shut = number_none (is_open c.args.flags.now c.args.i) c.args.i c.in-default.ensures in
+    let shut = number_none (is_open c.args.flags.now c.args.i) c.args.i c.in_default.ensures in
     stores_at table (tried_shut g.K.Kind.model c.args.kind.now c.args.flags.now c.args.next (get_or table c.args.next d) c.args.i c.args.link.now (take c.args.count table) shut)
     (stores_none table c.args.count (omega arith))
 
@@ -29,5 +29,5 @@ returns g c d =
     let number = number_some (is_open c.args.flags.now c.args.i) c.args.i c.in-Some.number c.in-Some.ensures in
     stores_at table
     (tried_over m k c.args.flags.now c.args.next l c.args.i c.args.link.now (take c.args.count table) number.0 (c.if-link-labels.false ∙ ap (λ x. x.node) same)
-    ∙ ap (λ x. offered m k x (take c.args.count table)) (ap (λ i. candidate m k c.args.next l i c.args.link.now) (sym number.1) ∙ sym (c.step-over-label.ensures d)))
+    ∙ ap (λ x. offered m k x (take c.args.count table)) (ap (λ i. candidate m k c.args.next l i c.args.link.now) (sym number.1) ∙ sym (c.step_over-label.ensures d)))
     c.offer.ensures

@@ -18,7 +18,7 @@ returns-in-None g c =
 pub pick-requires : goal.pick-requires
 pick-requires g c =
     let q = asked c.args.kind.now c.args.links.now c.args.flags.now c.args.source c.args.target c.args.hop_limit in
-    (making_fits (made g.K.Kind.model q) c.args.labels.now c.in-Some.count c.make-labels.new.labels c.in-Some.ensures).1
+    (making_fits (made g.K.Kind.model q) c.args.labels.now c.in-Some.count c.make_labels.new.labels c.in-Some.ensures).1
 
 pub returns-in-Some : goal.returns-in-Some
 returns-in-Some g c =

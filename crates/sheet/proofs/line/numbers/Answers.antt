@@ -10,9 +10,9 @@ loop-i-init g c =
     let wide : length c.args.most ≡ g.row.N = search rules in
     (start _ _ _ _ wide, refl, refl)
 
-pub returns-in-default : goal.returns-in-default
-returns-in-default g c =
-    let none = c.in-default.ensures.step in
+pub returns-in_default : goal.returns-in_default
+returns-in_default g c =
+    let none = c.in_default.ensures.step in
     record {
       told = missing _ _ _ _ _ _ _ _ c.loop-i.invariant.0 c.loop-i-test.true none.0;
       long = tt;
@@ -34,9 +34,9 @@ loop-i-preserved g c =
       over.same_number ∙ c.loop-i.invariant.2,
     )
 
-pub returns-in-Some-next-field : goal.returns-in-Some-next-field
-returns-in-Some-next-field g c =
-    let over = c.in-Some-next-field.ensures.step in
+pub returns-in-Some-next_field : goal.returns-in-Some-next_field
+returns-in-Some-next_field g c =
+    let over = c.in-Some-next_field.ensures.step in
     record {
       told = surplus _ _ _ _ _ _ _ _ _ _ c.loop-i.invariant.0 c.loop-i-test.false over.was;
       long = tt;
@@ -47,7 +47,7 @@ returns-in-Some-next-field g c =
 
 pub returns-in-Some-fault : goal.returns-in-Some-fault
 returns-in-Some-fault g c =
-    let none = c.in-default-next-field.ensures.step in
+    let none = c.in_default-next_field.ensures.step in
     record {
       told = one_was_bad _ _ _ _ _ _ _ c.loop-i-test.false c.loop-i.auto.i-end none.0 _ _ c.in-Some-fault.is c.loop-i.invariant.0;
       long = tt;
@@ -58,7 +58,7 @@ returns-in-Some-fault g c =
 
 pub returns-in-None-fault : goal.returns-in-None-fault
 returns-in-None-fault g c =
-    let none = c.in-default-next-field.ensures.step in
+    let none = c.in_default-next_field.ensures.step in
     record {
       told = all_read _ _ _ _ _ _ _ c.loop-i-test.false c.loop-i.auto.i-end none.0 _ c.in-None-fault.is c.loop-i.invariant.0;
       long = c.loop-i.invariant.0.long;

@@ -4,5 +4,5 @@ use Rattle.sheet.proofs.rows.worked_sheets.Goals as goal
 pub returns : goal.returns
 returns c = record {
   hold = (refl, (refl, (refl, (refl, (refl, (refl, (refl, (refl, (refl, (refl, (refl, (refl, (refl, (refl, (refl, tt)))))))))))))));
-  count = c.row-count.ensures;
+  count = c.row_count.ensures;
 }

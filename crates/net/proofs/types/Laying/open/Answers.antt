@@ -11,7 +11,7 @@ returns g c =
     let m = g.K.Kind.model in
     let net = c.args.self in
     let t = table net.count net.links.now in
-    let done = c.into-service.ensures in
+    let done = c.into_service.ensures in
     record {
       nodes = done.nodes;
       table = done.table;

@@ -7,11 +7,11 @@ pub returns : goal.returns
 returns g c =
     let net = c.args.self.now in
     let t = table net.count net.links.now in
-    let count = c.in-use-count.result in
-    let long : length (listed 512 t) ≡ count = length-listed t 512 ∙ sym c.in-use-count.ensures in
+    let count = c.in_use-count.result in
+    let long : length (listed 512 t) ≡ count = length-listed t 512 ∙ sym c.in_use-count.ensures in
     let passes = add_passes net.nodes (room 512 t) (length (listed 512 t)) c.args.link (omega arith) (omega arith) c.if-link.false (omega arith) in
     record {
       answer = ap (λ n. (0, n ∷ [])) (sym long) ∙ sym (unless_none _ _ passes);
-      left = put_one t count c.args.link c.if-count-self.false ∙ ap (λ n. put (take n net.links.now ++ c.args.link ∷ []) t) c.in-use-count.ensures ∙ sym (leave_none t _ _ passes);
+      left = put_one t count c.args.link c.if-count-self.false ∙ ap (λ n. put (take n net.links.now ++ c.args.link ∷ []) t) c.in_use-count.ensures ∙ sym (leave_none t _ _ passes);
       nodes = refl;
     }

@@ -15,8 +15,8 @@ returns g c =
     let book = c.args.book.now in
     let t = table net.count net.links.now in
     let b = table book.count book.streams.now in
-    let ended = c.end-all-ended.ensures.ended ∙ sym (length-listed b 64) in
-    let left = c.end-all-ended.ensures.left ∙ put_none b in
+    let ended = c.end_all-ended.ensures.ended ∙ sym (length-listed b 64) in
+    let left = c.end_all-ended.ensures.left ∙ put_none b in
     record {
       nodes = refl;
       table = refl;
