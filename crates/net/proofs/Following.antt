@@ -3,20 +3,20 @@ use Rattle.std.proofs.Common.{◌≡◌, ℕ, suc, ◌+◌, ◌<◌, ◌≤◌, 
 use Rattle.std.specs.List.{AllByRecursion as All}
 use Rattle.std.proofs.lemmas.List.{take_at}
 use Rattle.std.proofs.lemmas.Bool.{cases_Bool, cond-true, cond-false, cond_both, lt-ltb, le-ltb, ltb-true, ltb-false}
-use Rattle.kinds.specs.Kinds.{Model}
+use Rattle.kinds.specs.Kinds.{Model, Laws}
 use Rattle.search.specs.Rule.{stored}
 use Rattle.search.specs.declared.label.Link.{Link}
 use Rattle.search.proofs.Storing.{stored_fits}
-use Rattle.net.specs.Calls.{bearing, show_told_of, show_list_of, shown, show_within}
+use Rattle.net.specs.Calls.{bearing, show_told, show_told_of, show_list, show_list_of, shown, show_within}
 use Rattle.net.specs.Ledger.{Entry, Ledger, Site, number, numbers, record_of, answer, next, after, show_values}
-use Rattle.net.specs.Matching.{Matches, Follows}
+use Rattle.net.specs.Matching.{Matches, Follows, Shows}
 use Rattle.net.specs.Questions.{Told, unless, stream_refusal}
 use Rattle.net.specs.Tables.{Table, listed, place_of, route}
 use Rattle.net.specs.declared.types.Call.{Call}
 use Rattle.net.specs.declared.types.Call.TheVariants.{Show}
 use Rattle.net.specs.declared.types.Stream.{Stream}
-use Rattle.net.proofs.Matching.{after_push}
-use Rattle.net.proofs.Standing.{Measured, route_kept}
+use Rattle.net.proofs.Matching.{after_push, show_kept}
+use Rattle.net.proofs.Standing.{Measured, route_kept, sound_after, sound_measured}
 use Rattle.net.proofs.Tabled.{unless_none}
 
 module _ {K S U : Type 0} (m : Model K S U) (site : Site) (calls : List (Call K U)) (c : Call K U) where
@@ -87,12 +87,29 @@ module _ {K S U : Type 0} (m : Model K S U) (site : Site) (n : ℕ) where
       cond_both (eqb (number e) n) (e.figure ∷ e.asked_for.rate ∷ e.route) (show_values m site es n) (λ vs. length vs ≤ 18) (λ _. omega (arith, h.0.short)) (λ _. few_values es h.1)
 
   -- sixteen places are enough for every route
-  pub show_whole_is : (s : Ledger K U) → All Measured s.streams → show_within 16 (answer m site s (Show n)) ≡ answer m site s (Show n)
-  show_whole_is s h =
+  pub show_whole_is : (places : ℕ) → 16 ≤ places → (s : Ledger K U) → All Measured s.streams → show_within places (answer m site s (Show n)) ≡ answer m site s (Show n)
+  show_whole_is places enough s h =
       let refusal = stream_refusal (numbers s.streams) n in
       let values = show_values m site s.streams n in
       let few : length (answer m site s (Show n)).1 ≤ 18 =
       cond_both {A = Told} s.serving (unless refusal values) (22, []) (λ x. length x.1 ≤ 18)
       (λ _. cond_both {A = Told} (eqb refusal 0) (0, values) (refusal, []) (λ x. length x.1 ≤ 18) (λ _. few_values s.streams h) (λ _. omega arith))
       (λ _. omega arith) in
-      cond-false _ _ _ (le-ltb 18 (length (answer m site s (Show n)).1) few)
+      cond-false _ _ _ (le-ltb (places + 2) (length (answer m site s (Show n)).1) (omega arith))
+
+module _ {K S U : Type 0} (m : Model K S U) (laws : Laws m) (site : Site) (calls : List (Call K U)) (n nodes : ℕ) (t : Table (Link U)) (b : Table Stream) (h : Matches site (after m site calls) true nodes t b) (told : Told) (places places' : List ℕ) (is : told ≡ show_told b n places) (left : places' ≡ show_list b n places) where
+  measured : All Measured (after m site calls).streams
+  measured = sound_measured m (after m site calls) (sound_after m site laws calls)
+
+  -- a show into any list
+  pub shows_within : Shows m site calls n (length places) (shown told places') nodes t b
+  shows_within = (
+    ap (λ (x : Told). shown x places') is
+        ∙ ap (shown (show_told b n places)) left
+        ∙ show_answer_is m site n places (after m site calls) b h.serving_is h.streams_are measured,
+    subst (λ s. Matches site s true nodes t b) (sym (after_push m site calls (Show n))) (show_kept m site (after m site calls) nodes t b h n),
+  )
+
+  -- a show into a list that is long enough for every route
+  pub shows_whole : 16 ≤ length places → Follows m site calls (Show n) (shown told places') true nodes t b
+  shows_whole enough = (shows_within.0 ∙ show_whole_is m site n (length places) enough (after m site calls) measured, shows_within.1)

@@ -7,7 +7,7 @@ use Rattle.net.proofs.streams.load_of.Goals as goal
 pub loop-stream-preserved : goal.loop-stream-preserved
 loop-stream-preserved c = (
   ap₂ ◌+◌ c.loop-stream.invariant.0 (c.from-sum.ensures ∙ c.share.ensures) ∙ sym (load_more c.args.streams.now c.args.link c.loop-stream.stream-index _ c.loop-stream-test.true),
-  omega (arith, c.loop-stream.invariant.1, c.from-sum.ensures, c.share.type-inv),
+  omega (arith, c.loop-stream.invariant.1, c.from-sum.ensures, c.share.type_inv),
 )
 
 pub returns : goal.returns

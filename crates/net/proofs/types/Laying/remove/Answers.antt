@@ -12,13 +12,13 @@ returns g c =
     let t = table net.count net.links.now in
     let count = c.in_use-count.result in
     let long : length (listed 512 t) ≡ count = length-listed t 512 ∙ sym c.in_use-count.ensures in
-    let inside : c.args.link < length (listed 512 t) = omega (arith, c.from_at.ensures) in
+    let inside : c.args.link < length (listed 512 t) = omega (arith, c.from-at.ensures) in
     let passes : link_refusal (length (listed 512 t)) c.args.link ≡ 0 = cond-false _ _ _ (lt-leb _ _ inside) in
     record {
       answer = sym (unless_none _ _ passes);
       left =
-          put_less t count c.from_at.result c.take_out.new.table (omega arith) (omega (arith, c.in_use-count.ensures)) c.take_out.ensures
-          ∙ ap₂ (λ n i. put (remove (take n net.links.now) i) t) c.in_use-count.ensures c.from_at.ensures
+          put_less t count c.from-at.result c.take_out.new.table (omega arith) (omega (arith, c.in_use-count.ensures)) c.take_out.ensures
+          ∙ ap₂ (λ n i. put (remove (take n net.links.now) i) t) c.in_use-count.ensures c.from-at.ensures
           ∙ sym (leave_none t _ _ passes);
       nodes = refl;
     }
