@@ -10,7 +10,7 @@ returns-in-Ok c =
     let step = c.in-Some.ensures.step in
     let line = c.read_net.ensures.line in
     let number = line.1 ∙ step.kept in
-    one_made _ _ _ _ _ _ c.loop-line.invariant _ _ step.was c.in-Ok.net (c.in-Ok.ensures.told ∙ ap net_line step.opened) _ _ _ (number ∙ step.counted) line.0 (c.in_ok-write_made.ensures ∙ ap (λ k. string_bytes c.loop-line.out ++ (reply_line k (accepted []) ++ 10 ∷ [])) (sym number))
+    one_made _ _ _ _ _ _ c.loop-line.invariant _ _ step.was c.in-Ok.net (c.in-Ok.ensures.told ∙ ap net_line step.opened) _ _ _ (number ∙ step.counted) line.0 (c.in_ok-write_made-in-Ok.ensures ∙ ap (λ k. string_bytes c.loop-line.out ++ (reply_line k (accepted []) ++ 10 ∷ [])) (sym number))
 
 pub loop-line-preserved : goal.loop-line-preserved
 loop-line-preserved c =
@@ -18,4 +18,4 @@ loop-line-preserved c =
     let line = c.read_net.ensures.line in
     let number = line.1 ∙ step.kept in
     let blame = blame_of c.in-Err.fault in
-    one_refused _ _ _ _ _ _ c.loop-line.invariant _ _ step.was blame (c.in-Err.ensures.told ∙ ap net_line step.opened) _ _ _ (number ∙ step.counted) line.0 (c.in_ok-write_fault.ensures ∙ ap (λ k. string_bytes c.loop-line.out ++ (reply_line k (refused blame.0 blame.1) ++ 10 ∷ [])) (sym number))
+    one_refused _ _ _ _ _ _ c.loop-line.invariant _ _ step.was blame (c.in-Err.ensures.told ∙ ap net_line step.opened) _ _ _ (number ∙ step.counted) line.0 (c.in_ok-write_fault-in-Err.ensures ∙ ap (λ k. string_bytes c.loop-line.out ++ (reply_line k (refused blame.0 blame.1) ++ 10 ∷ [])) (sym number))

@@ -3,11 +3,11 @@ use Rattle.net.specs.declared.Answer.TheVariants.{Done}
 use Rattle.orders.proofs.Texts.{text_of-answer, answers_left, no_text, none_left}
 use Rattle.orders.proofs.serve.write_line.Goals as goal
 
-pub returns-in_ok-write_answer : goal.returns-in_ok-write_answer
-returns-in_ok-write_answer c =
+pub returns-in_ok-write_answer-in-None : goal.returns-in_ok-write_answer-in-None
+returns-in_ok-write_answer-in-None c =
     let lt = c.if-next-answers.true in
     record {
-      written = c.in_ok-write_answer.ensures ∙ ap (λ l. string_bytes c.args.out.now ++ l) (text_of-answer _ _ _ _ c.in-None.is _ lt);
+      written = c.in_ok-write_answer-in-None.ensures ∙ ap (λ l. string_bytes c.args.out.now ++ l) (text_of-answer _ _ _ _ c.in-None.is _ lt);
       next = answers_left c.args.line.now.number _ _ _ c.in-None.is lt Done;
     }
 
