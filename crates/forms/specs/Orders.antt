@@ -1,5 +1,5 @@
 -- The words that a line can begin with, and when each is allowed. Assumes nothing.
-use Rattle.std.specs.Prelude.{ℕ, Bool, cond, List, [], ◌∷◌, Ok, Err, codes, Result}
+use Rattle.std.specs.Prelude.{ℕ, Bool, cond, List, Ok, Err, codes, Result}
 use Rattle.std.specs.Str.{bytes_eq}
 use Rattle.forms.specs.Faults.{Blame}
 use Rattle.forms.specs.declared.order.Order.{Order}

@@ -1,15 +1,13 @@
 -- A clock's time is the largest of its candidates, and it is shut by a gate that was reached late. Assumes nothing.
-use Rattle.std.proofs.Common.{◌≡◌, ℕ, ◌+◌, ◌*◌, ◌<◌, ◌≤◌, min, max, Bool, true, false, ◌||◌, ltb, List, [], ◌∷◌, ◌++◌, map, length, get_or, take, Decides, fold, sym, refl, ap, ◌∙◌, subst, ap₂, ⊎_elim, arith}
-use mathlib.Core.List.{map-append}
+use Rattle.std.proofs.Common.{◌≡◌, ℕ, ◌+◌, ◌*◌, ◌<◌, ◌≤◌, min, max, ltb, List, [], ◌∷◌, ◌++◌, map, length, get_or, Decides, fold, sym, refl, ap, ◌∙◌, subst, ap₂, ⊎_elim, arith}
 use Rattle.std.proofs.lemmas.List.{length_push, length-map, get_or_append_left, get_or_at, take-append-le, take_all, map_push}
 use Rattle.std.proofs.lemmas.List.Sums.{sum_by_push, sum_by-cons, fold_push}
 use Rattle.std.proofs.lemmas.Bool.{cases_lt, or_cases, or_left, or_right, ltb-true, lt-ltb, false≢true}
-use Rattle.kinds.specs.Arrivals.{travel, openings, largest, arrival, Late, Arrives}
+use Rattle.kinds.specs.Arrivals.{travel, openings, arrival, Late, Arrives}
 use Rattle.kinds.specs.Clock.{clock_model, next_time}
 use Rattle.kinds.specs.Kinds.{along}
 use Rattle.kinds.specs.Stopped.{top}
 use Rattle.kinds.specs.declared.clock.Clock.{Clock}
-use Rattle.kinds.specs.declared.clock.ClockState.{ClockState}
 use Rattle.kinds.specs.declared.clock.ClockUse.{ClockUse}
 use Rattle.kinds.proofs.Along.{along_push, from_end}
 

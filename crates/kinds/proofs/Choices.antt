@@ -1,5 +1,5 @@
 -- A budget's state is the worst over every choice of links. Assumes nothing.
-use Rattle.std.proofs.Common.{◌≡◌, ℕ, zero, suc, ◌+◌, ◌*◌, ◌<◌, ◌≤◌, min, max, Bool, true, false, cond, List, [], ◌∷◌, ◌++◌, length, get_or, take, Decides, sym, refl, ap, ◌∙◌, subst, ⊎_elim, arith, length-append}
+use Rattle.std.proofs.Common.{◌≡◌, ℕ, zero, suc, ◌+◌, ◌*◌, ◌<◌, ◌≤◌, min, max, Bool, true, false, cond, List, [], ◌∷◌, ◌++◌, length, get_or, take, sym, refl, ap, ◌∙◌, subst, ⊎_elim, arith}
 use lib.ListN.{get_or-replicate}
 use Rattle.std.proofs.lemmas.List.{take_more, take_all, length-take-le, length_push}
 use Rattle.std.proofs.lemmas.List.Sums.{sum_by_push}
@@ -9,7 +9,6 @@ use Rattle.kinds.specs.Choices.{chosen, Choice, sum_under, Largest, WorstCase}
 use Rattle.kinds.specs.Kinds.{along}
 use Rattle.kinds.specs.Stopped.{top, stopped}
 use Rattle.kinds.specs.declared.budget.Budget.{Budget}
-use Rattle.kinds.specs.declared.budget.BudgetState.{BudgetState}
 use Rattle.kinds.specs.declared.budget.BudgetUse.{BudgetUse}
 use Rattle.kinds.proofs.Along.{along_push, from_end}
 use Rattle.kinds.specs.BudgetLaws.{extended_at}

@@ -1,13 +1,12 @@
 -- A duct set holds the ducts of the route, and is doubled by one that comes twice. Assumes nothing.
-use Rattle.std.proofs.Common.{◌≡◌, ℕ, zero, suc, ◌+◌, ◌*◌, ◌^◌, ◌<◌, ◌≤◌, max, Bool, true, false, cond, not, ◌||◌, eqb, ltb, ◌⊎◌, List, [], ◌∷◌, ◌++◌, map, length, get_or, Decides, sym, refl, ap, ◌∙◌, subst, ap₂, inl, inr, ⊎_elim, one-mul, zero-mul, arith, pow_pos}
-use lib.Bits.{bit_and, bit_or, or_lt}
+use Rattle.std.proofs.Common.{◌≡◌, ℕ, zero, suc, ◌*◌, ◌^◌, ◌<◌, ◌≤◌, max, Bool, true, false, cond, ◌||◌, eqb, ltb, ◌⊎◌, List, [], ◌∷◌, ◌++◌, length, get_or, Decides, sym, refl, ap, ◌∙◌, subst, ap₂, inl, inr, ⊎_elim, one-mul, zero-mul, arith, pow_pos}
+use lib.Bits.{or_lt}
 use lib.Pow.{pow-lt}
-use Rattle.std.specs.List.{range_with_len}
 use Rattle.std.proofs.lemmas.List.{length_push, get_or_append_left, get_or_at, map_push}
 use Rattle.std.proofs.lemmas.Bool.{cases_Bool, cases_lt, or_cases, or_left, or_right, eqb-true, eqb-false, eq-eqb, ne_eqb, ltb-true, ltb-false, cond-true, cond-false, not_from_false, not_from_true, false≢true}
 use Rattle.kinds.specs.Ducts.{ducts_model, has_duct, mask, pass}
 use Rattle.kinds.specs.Kinds.{along}
-use Rattle.kinds.specs.Passes.{ducts_of, among, distinct, Twice, Passes}
+use Rattle.kinds.specs.Passes.{ducts_of, among, Twice, Passes}
 use Rattle.kinds.specs.declared.ducts.DuctState.{DuctState}
 use Rattle.kinds.specs.declared.ducts.DuctUse.{DuctUse}
 use Rattle.kinds.specs.declared.ducts.Ducts.{Ducts}

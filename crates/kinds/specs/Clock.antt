@@ -1,5 +1,5 @@
 -- What a clock computes. Assumes nothing.
-use Rattle.std.specs.Prelude.{ℕ, max, Bool, false, not, ◌&&◌, ◌||◌, nat_le, nat_lt}
+use Rattle.std.specs.Prelude.{ℕ, max, false, not, ◌&&◌, ◌||◌, nat_le, nat_lt}
 use Rattle.kinds.specs.Kinds.{Model}
 use Rattle.kinds.specs.Stopped.{stopped}
 use Rattle.kinds.specs.declared.clock.Clock.{Clock}

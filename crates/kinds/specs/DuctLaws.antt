@@ -2,7 +2,7 @@
 use Rattle.std.specs.Prelude.{◌≡◌, ℕ, Bool, true, false, cond, not, ◌||◌, ◌≢◌, bit_and, nat_lt, refl}
 use Rattle.std.proofs.Common.{⊎_elim}
 use Rattle.std.specs.Int.Bits.{and_self}
-use Rattle.std.proofs.lemmas.Bool.{and_from, and_parts, or_cases, or_left, or_right, eqb-true, eqb-false, eq-eqb, ne_eqb, not-true, not_from_false, not-false, both_ways, false≢true}
+use Rattle.std.proofs.lemmas.Bool.{and_from, and_parts, or_cases, or_left, or_right, eqb-true, eqb-false, eq-eqb, ne_eqb, not-true, not_from_false, both_ways, false≢true}
 use Rattle.kinds.specs.Kinds.{Laws}
 use Rattle.kinds.specs.Ducts.{has_duct, mask, pass, ducts_model}
 use Rattle.kinds.specs.declared.ducts.DuctState.{DuctState}

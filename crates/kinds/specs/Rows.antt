@@ -1,7 +1,6 @@
 -- Worked examples of the kinds, as one list of rows. Assumes nothing.
-use Rattle.std.specs.Prelude.{◌≡◌, ℕ, ◌+◌, Bool, true, false, T, List, [], ◌∷◌, ◌++◌, map, length, take, replicate, nat_le, nat_lt}
+use Rattle.std.specs.Prelude.{◌≡◌, ℕ, ◌+◌, Bool, true, false, T, List, [], ◌∷◌, ◌++◌, map, take, replicate, nat_le, nat_lt}
 use Rattle.std.proofs.Common.{lit≤, lit<}
-use Rattle.std.specs.List.{AllByRecursion as All}
 use Rattle.kinds.specs.Budget.{budget_model}
 use Rattle.kinds.specs.Clock.{clock_model}
 use Rattle.kinds.specs.Ducts.{ducts_model}
@@ -12,8 +11,6 @@ use Rattle.kinds.specs.declared.budget.BudgetUse.{BudgetUse}
 use Rattle.kinds.specs.declared.clock.Clock.{Clock}
 use Rattle.kinds.specs.declared.clock.ClockState.{ClockState}
 use Rattle.kinds.specs.declared.clock.ClockUse.{ClockUse}
-use Rattle.kinds.specs.declared.ducts.DuctUse.{DuctUse}
-use Rattle.kinds.specs.declared.ducts.Ducts.{Ducts}
 
 -- a row gives what goes in and, last, what comes out
 pub data Row : Type 0 where

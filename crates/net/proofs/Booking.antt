@@ -1,8 +1,8 @@
 -- A booking: what the search's answer says of it. Assumes nothing.
-use Rattle.std.proofs.Common.{◌≡◌, ℕ, suc, ◌+◌, ◌-◌, ◌<◌, ◌≤◌, min, Bool, true, false, cond, ◌&&◌, eqb, ltb, leb, List, [], ◌∷◌, ◌++◌, length, get_or, take, drop, set, replicate, Some, None, Ok, Err, Option, Result, sym, refl, ap, ◌∙◌, subst, ap₂, subst₂, ⊎_elim, arith, length-append, length-drop}
+use Rattle.std.proofs.Common.{◌≡◌, ℕ, suc, ◌+◌, ◌-◌, ◌<◌, ◌≤◌, min, Bool, true, false, cond, ◌&&◌, eqb, ltb, leb, List, [], ◌∷◌, ◌++◌, length, get_or, take, drop, set, replicate, Some, None, Ok, Err, Option, Result, sym, refl, ap, ◌∙◌, ap₂, subst₂, ⊎_elim, arith, length-append, length-drop}
 use lib.ListN.{get_or-replicate}
 use Rattle.std.proofs.lemmas.List.{same_lists, length-map, length_push, length-take-le, get_or_append_left, get_or-append_right, get_or-take, get_or-drop}
-use Rattle.std.proofs.lemmas.Bool.{cases_Bool, cond-true, cond-false, eq-eqb, ne_eqb, eqb-true, eqb-false, ltb-false, leb-true, leb-false, le-leb, cases_lt}
+use Rattle.std.proofs.lemmas.Bool.{cases_Bool, cond-true, cond-false, eq-eqb, ne_eqb, ltb-false, leb-true, leb-false, le-leb, cases_lt}
 use Rattle.kinds.specs.Kinds.{Model, Laws}
 use Rattle.search.specs.Answers.{best, fault_number, answer, answer-of}
 use Rattle.search.specs.Routes.{route_of}
@@ -15,8 +15,8 @@ use Rattle.search.specs.declared.label.Label.{Label}
 use Rattle.search.specs.declared.label.Link.{Link}
 use Rattle.search.proofs.Promised.{best_inside, best_cheapest, stored-route}
 use Rattle.search.proofs.Storing.{stores_one}
-use Rattle.net.specs.Calls.{numbers_of, booking, first_refusal, booking_told, recorded, recorded_as, written, entered, Books, book_told_by, book_left}
-use Rattle.net.specs.Questions.{Told, told, unless, net_fault_number, book_refusal, route_refusal, found_of, search_told}
+use Rattle.net.specs.Calls.{numbers_of, booking, booking_told, recorded, recorded_as, written, entered, Books, book_told_by, book_left}
+use Rattle.net.specs.Questions.{told, unless, net_fault_number, book_refusal, route_refusal, found_of, search_told}
 use Rattle.net.specs.Tables.{Table, table, room, listed, place_of, sixteen}
 use Rattle.net.specs.declared.types.NetFault.{NetFault}
 use Rattle.net.specs.declared.types.NetFault.TheVariants.{NodeCount, Tail, Head, LinkEnds, LinksFull, NoLink, StreamZero, StreamTaken, BookFull, Source, Target, StreamEnds, Rate, HopLimit, Search, NoStream, ListShort}

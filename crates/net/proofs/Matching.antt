@@ -1,20 +1,20 @@
 -- Each call, on a net and a book that are the ledger's, does what the ledger does. Assumes nothing.
-use Rattle.std.proofs.Common.{◌≡◌, ℕ, zero, suc, ◌+◌, ◌<◌, ◌≤◌, min, Bool, true, false, cond, eqb, leb, List, [], ◌∷◌, ◌++◌, map, length, get_or, take, drop, Some, None, Option, sym, refl, ap, ◌∙◌, subst, ap₂, subst₂, ⊎_elim, arith, length-append, length-drop}
+use Rattle.std.proofs.Common.{◌≡◌, ℕ, suc, ◌<◌, ◌≤◌, min, true, false, cond, eqb, leb, List, [], ◌∷◌, ◌++◌, map, length, take, drop, Some, None, Option, sym, refl, ap, ◌∙◌, subst, ap₂, ⊎_elim, arith, length-append, length-drop}
 use mathlib.Core.Path.{fun_ext}
 use Rattle.std.specs.List.{remove, AllByRecursion as All}
 use Rattle.std.proofs.lemmas.List.{length-map, length_push, take_at, take-map, drop-map, map-append}
 use Rattle.std.proofs.lemmas.List.Sums.{fold_push}
 use Rattle.std.proofs.lemmas.Bool.{cases_Bool, cond-true, cond-false, eq-eqb, ne_eqb, eqb-true, eqb-false, leb-false}
-use Rattle.kinds.specs.Kinds.{Model, Laws}
+use Rattle.kinds.specs.Kinds.{Model}
 use Rattle.search.specs.Answers.{best}
 use Rattle.search.specs.Routes.{route_of}
-use Rattle.search.specs.Rule.{stored, made}
+use Rattle.search.specs.Rule.{made}
 use Rattle.search.specs.declared.answer.Best.{Best}
 use Rattle.search.specs.declared.label.Link.{Link}
 use Rattle.search.proofs.Storing.{stored_fits}
-use Rattle.net.specs.Calls.{leave, numbers_of, add_told, add_left, withdraw_told, withdraw_left, release_told, release_left, load_told, booking, booking_told, recorded, recorded_as, book_told_by, book_left}
-use Rattle.net.specs.Ledger.{Entry, Ledger, Site, number, numbers, booked_over, record_of, begun, asks, answer, entered, changed, next, after, book_told}
-use Rattle.net.specs.Matching.{Matches, Follows}
+use Rattle.net.specs.Calls.{numbers_of, add_told, add_left, withdraw_told, withdraw_left, release_told, release_left, load_told, booking, recorded, recorded_as, book_told_by, book_left}
+use Rattle.net.specs.Ledger.{Ledger, Site, numbers, booked_over, record_of, begun, asks, answer, entered, changed, next, after}
+use Rattle.net.specs.Matching.{Matches}
 use Rattle.net.specs.Questions.{Told, unless, node_count, add_refusal, link_refusal, book_refusal, stream_refusal, query, search_told}
 use Rattle.net.specs.Tables.{Table, room, listed, put, place_of, load, sixteen}
 use Rattle.net.specs.declared.types.Call.{Call}
@@ -24,7 +24,7 @@ use Rattle.net.specs.declared.types.Stream.{Stream}
 use Rattle.net.proofs.Booking.{none_of, is_false, passed}
 use Rattle.net.proofs.Shifts.{length_removed}
 use Rattle.net.proofs.Standing.{Measured, load_same}
-use Rattle.net.proofs.Tabled.{length-listed, unless_none, stream_there}
+use Rattle.net.proofs.Tabled.{length-listed, stream_there}
 
 module _ {X : Type 0} (cap : ℕ) (xs : List X) (t : Table X) (fits : length xs ≤ room cap t) where
   length-put : length (put xs t).places ≡ length t.places

@@ -1,5 +1,5 @@
 -- Calls performed one after another. Assumes nothing.
-use Rattle.std.proofs.Common.{◌≡◌, ℕ, min, Bool, true, false, List, [], ◌∷◌, ◌++◌, map, length, take, fold, sym, refl, ap, ◌∙◌, subst, ap₂, arith}
+use Rattle.std.proofs.Common.{◌≡◌, ℕ, min, Bool, false, List, [], ◌∷◌, ◌++◌, map, length, take, fold, sym, refl, ap, ◌∙◌, subst, ap₂, arith}
 use Rattle.std.proofs.lemmas.List.{map_push}
 use Rattle.kinds.specs.Kinds.{Model}
 use Rattle.search.specs.declared.label.Link.{Link}

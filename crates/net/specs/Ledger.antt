@@ -1,5 +1,5 @@
 -- The ledger: what a list of calls comes to, from the calls, the node count and the table lengths alone. Assumes nothing.
-use Rattle.std.specs.Prelude.{ℕ, min, Bool, true, false, cond, not, List, [], ◌∷◌, ◌++◌, map, length, Some, None, fold, Option, ◌==◌}
+use Rattle.std.specs.Prelude.{ℕ, min, Bool, true, false, cond, List, [], ◌∷◌, ◌++◌, map, length, Some, None, fold, Option, ◌==◌}
 use Rattle.std.specs.List.{remove}
 use Rattle.kinds.specs.Kinds.{Model}
 use Rattle.search.specs.Answers.{best}

@@ -1,19 +1,16 @@
 -- What a net, a book and the answers say of a run. Assumes nothing.
-use Rattle.std.specs.Prelude.{◌≡◌, ℕ, Bool, true, false, List, [], ◌∷◌, ◌++◌, map, length, take}
+use Rattle.std.specs.Prelude.{◌≡◌, ℕ, Bool, true, false, List, [], ◌∷◌, map, take}
 use Rattle.kinds.specs.Kinds.{Model}
 use Rattle.search.specs.declared.label.Link.{Link}
-use Rattle.net.specs.Laws.{LawsOfRun}
-use Rattle.net.specs.Ledger.{Ledger, Site, record_of, after, answers, begun}
-use Rattle.net.specs.Matching.{Matches, Follows}
+use Rattle.net.specs.Ledger.{Site, record_of, after, answers, begun}
+use Rattle.net.specs.Matching.{Matches}
 use Rattle.net.specs.Questions.{Told, net_fault_number}
 use Rattle.net.specs.Tables.{Table, table, listed}
 use Rattle.net.specs.declared.types.Answer.{Answer}
 use Rattle.net.specs.declared.types.Answer.TheVariants.{Done, Added, Booked, Shown, Loaded, Ended, Refused, NotTaken}
 use Rattle.net.specs.declared.types.Call.{Call}
-use Rattle.net.specs.declared.types.Laying.{Laying}
 use Rattle.net.specs.declared.types.Net.{Net}
 use Rattle.net.specs.declared.types.Net.TheVariants.{Laid, Serving}
-use Rattle.net.specs.declared.types.Service.{Service}
 use Rattle.net.specs.declared.types.Stream.{Stream}
 
 -- an answer: its number, 0 where the call was not refused, and its values

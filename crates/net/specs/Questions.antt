@@ -1,5 +1,5 @@
 -- The questions of each call, in order, and the number when the answer is no. Assumes nothing.
-use Rattle.std.specs.Prelude.{ℕ, min, Bool, cond, not, ◌&&◌, List, [], ◌∷◌, map, length, Some, None, Ok, Err, Option, Result, ◌==◌, nat_le, nat_lt}
+use Rattle.std.specs.Prelude.{ℕ, cond, ◌&&◌, List, [], ◌∷◌, length, Some, None, Ok, Err, Option, Result, ◌==◌, nat_le, nat_lt}
 use Rattle.kinds.specs.Kinds.{Model}
 use Rattle.search.specs.Answers.{best, fault_number}
 use Rattle.search.specs.Rule.{Query, asked, made}

@@ -1,5 +1,5 @@
 -- Lists in lent tables, and the streams of a book. Assumes nothing.
-use Rattle.std.specs.Prelude.{◌≡◌, ℕ, zero, suc, ◌+◌, ◌≤◌, min, Bool, false, cond, ◌||◌, List, [], ◌∷◌, ◌++◌, length, take, replicate, sum_by, ◌==◌, nat_le}
+use Rattle.std.specs.Prelude.{ℕ, suc, ◌+◌, min, Bool, false, cond, ◌||◌, List, [], ◌∷◌, ◌++◌, length, take, replicate, sum_by, ◌==◌, nat_le}
 use Rattle.search.specs.Rule.{stored}
 use Rattle.search.specs.declared.label.Link.{Link}
 use Rattle.net.specs.declared.types.Stream.{Stream}

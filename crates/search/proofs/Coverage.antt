@@ -1,12 +1,11 @@
 -- Each route within limits is covered by a label at its end, of no more hops. Assumes nothing.
-use Rattle.std.proofs.Common.{◌≡◌, ℕ, suc, ◌+◌, ◌<◌, ◌≤◌, true, List, [], ◌∷◌, ◌++◌, length, get_or, take, drop, sym, refl, ap, ◌∙◌, subst, inl, inr, ⊎_elim, arith, take-append-drop}
+use Rattle.std.proofs.Common.{◌≡◌, ℕ, suc, ◌<◌, ◌≤◌, true, List, [], ◌∷◌, ◌++◌, length, get_or, take, drop, sym, ap, ◌∙◌, subst, ⊎_elim, arith, take-append-drop}
 use Rattle.std.proofs.lemmas.List.{length_push, take_at}
 use Rattle.std.proofs.lemmas.Bool.{cases_lt, cond-true, cond-false, or_from, ne_eqb, lt-leb}
 use Rattle.kinds.specs.Kinds.{Model, Laws}
 use Rattle.kinds.proofs.Along.{from_end}
 use Rattle.search.specs.Routes.{Among, Distinct, link_at, heads, Leads, state_of, Route}
 use Rattle.search.specs.Rule.{Query, label0, is_open, candidate, beaten, tries, after, made}
-use Rattle.search.specs.declared.label.Label.{Label}
 use Rattle.search.specs.declared.label.Link.{Link}
 use Rattle.search.proofs.Offers.{grows_get_d, grows_length}
 use Rattle.search.proofs.Offspring.{beats_parts, beaten_by, beaten_more, tries_closed}

@@ -1,5 +1,5 @@
 -- Labels read field by field, and the way back written link by link. Assumes nothing.
-use Rattle.std.proofs.Common.{◌≡◌, ℕ, zero, suc, ◌+◌, ◌-◌, ◌<◌, ◌≤◌, List, [], ◌∷◌, ◌++◌, map, length, get_or, drop, set, sym, refl, ap, ◌∙◌, ap₂, append_assoc, add-one, arith}
+use Rattle.std.proofs.Common.{◌≡◌, ℕ, zero, suc, ◌-◌, ◌<◌, ◌≤◌, List, [], ◌∷◌, ◌++◌, map, length, get_or, drop, set, sym, refl, ap, ◌∙◌, ap₂, append_assoc, add-one, arith}
 use Rattle.std.proofs.lemmas.List.{drop-set, get_or-map, get_or_past, length-map, length_push}
 use Rattle.search.specs.Routes.{way, route_of}
 use Rattle.search.specs.declared.label.Label.{Label}

@@ -1,10 +1,10 @@
 -- All labels of the rule, made one after another over a table. Assumes nothing.
-use Rattle.std.proofs.Common.{◌≡◌, ℕ, suc, ◌+◌, ◌≤◌, List, length, take, Some, None, Option, sym, refl, ap, add-one, arith}
+use Rattle.std.proofs.Common.{◌≡◌, ℕ, suc, ◌+◌, ◌≤◌, List, length, take, Some, None, Option, sym, ap, add-one, arith}
 use Rattle.kinds.specs.Kinds.{Model}
 use Rattle.search.specs.Rule.{Query, first, turn, after, made, Stores}
 use Rattle.search.specs.declared.label.Label.{Label}
 use Rattle.search.proofs.Order.{after_grows, made_grows, made_done}
-use Rattle.search.proofs.Storing.{kept, making_fits, stores_at, stores_none, stores_more, stores_on}
+use Rattle.search.proofs.Storing.{making_fits, stores_at, stores_none, stores_more, stores_on}
 
 module _ {K S U : Type 0} (m : Model K S U) (q : Query K U) where
   pub first_full : (old left : List (Label S)) → Stores (first m q) old None left → Stores (made m q) old None left

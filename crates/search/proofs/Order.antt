@@ -1,10 +1,10 @@
 -- The labels in order of number: when each was taken, and when all have been. Assumes nothing.
-use Rattle.std.proofs.Common.{◌≡◌, ℕ, zero, suc, ◌+◌, ◌-◌, ◌<◌, ◌≤◌, Bool, true, false, cond, ◌||◌, eqb, ltb, leb, List, [], ◌∷◌, ◌++◌, length, get_or, sym, refl, ap, ◌∙◌, subst, ⊎_elim, arith, length-append}
+use Rattle.std.proofs.Common.{◌≡◌, ℕ, zero, suc, ◌+◌, ◌-◌, ◌<◌, ◌≤◌, Bool, true, false, cond, ◌||◌, eqb, leb, List, [], ◌∷◌, length, get_or, sym, refl, ap, ◌∙◌, subst, ⊎_elim, arith, length-append}
 use Rattle.std.proofs.ByRecursion.{All-get_or}
 use Rattle.std.proofs.lemmas.List.{get_or_append_left, get_or-append_right}
-use Rattle.std.proofs.lemmas.Bool.{cases_Bool, cases_lt, cond-true, cond-false, lt-ltb, le-ltb, or_right, le-leb}
+use Rattle.std.proofs.lemmas.Bool.{cases_lt, cond-true, cond-false, lt-ltb, le-ltb, or_right, le-leb}
 use Rattle.kinds.specs.Kinds.{Model}
-use Rattle.search.specs.Rule.{Query, label0, first, takes, tries, after, shorter, made}
+use Rattle.search.specs.Rule.{Query, label0, takes, tries, after, shorter, made}
 use Rattle.search.specs.declared.label.Label.{Label}
 use Rattle.search.proofs.Offers.{Grows, grows_none, grows_chain, grows_length, grows_get_d, tries_grows}
 use Rattle.search.proofs.Offspring.{Made, tries_adds}

@@ -1,12 +1,12 @@
 -- What the answer of a search says of every route there is. Assumes nothing.
-use Rattle.std.proofs.Common.{◌≡◌, ℕ, zero, suc, ◌+◌, ◌<◌, ◌≤◌, true, false, ltb, ◌↔◌, List, [], ◌∷◌, ◌++◌, map, length, get_or, take, drop, Some, None, Ok, Err, Option, Result, sym, refl, ap, ◌∙◌, subst, ap₂, inl, inr, ⊎_elim, arith}
+use Rattle.std.proofs.Common.{◌≡◌, ℕ, zero, suc, ◌<◌, ◌≤◌, List, [], ◌∷◌, ◌++◌, map, length, get_or, take, drop, Some, None, Ok, Err, Option, Result, sym, refl, ap, ◌∙◌, subst, ap₂, ⊎_elim, arith}
 use mathlib.Core.Path.{subst₃}
 use mathlib.Core.List.{map-append}
 use Rattle.std.proofs.lemmas.List.{get_or_append_left, get_or-map, length-map}
-use Rattle.std.proofs.lemmas.Bool.{cases_lt, cond-true, cond-false, lt-ltb, le-ltb}
+use Rattle.std.proofs.lemmas.Bool.{cond-true, cond-false, lt-ltb, le-ltb}
 use Rattle.kinds.specs.Kinds.{Model, Laws}
 use Rattle.search.specs.Answers.{Least, best, told, answer-of, answer, Promise}
-use Rattle.search.specs.Routes.{Among, Distinct, heads, link_at, Leads, state_of, cost, Route, Cheapest, way, route_of}
+use Rattle.search.specs.Routes.{Among, heads, Leads, Route, Cheapest, way, route_of}
 use Rattle.search.specs.Rule.{Query, label0, made, stored, Stores}
 use Rattle.search.specs.declared.answer.Best.{Best}
 use Rattle.search.specs.declared.answer.Found.{Found}
@@ -14,11 +14,11 @@ use Rattle.search.specs.declared.answer.SearchFault.{SearchFault}
 use Rattle.search.specs.declared.answer.SearchFault.TheVariants.{Full, NoRoute}
 use Rattle.search.specs.declared.label.Label.{Label}
 use Rattle.search.proofs.Chosen.{NoneThere, Picked, picked}
-use Rattle.search.proofs.Coverage.{Covered, route_covered}
-use Rattle.search.proofs.Storing.{kept, full, counted_fits, counted_full, stored_fits, making_fits}
-use Rattle.search.proofs.Tree.{at, Tree, tree_made}
+use Rattle.search.proofs.Coverage.{route_covered}
+use Rattle.search.proofs.Storing.{kept, full, stored_fits}
+use Rattle.search.proofs.Tree.{at, tree_made}
 use Rattle.search.proofs.Walks.{leads_end}
-use Rattle.search.proofs.WayBack.{Back, way_back}
+use Rattle.search.proofs.WayBack.{way_back}
 
 module _ {K S U : Type 0} (m : Model K S U) (laws : Laws m) (q : Query K U) where
   -- the way back stays among the labels made

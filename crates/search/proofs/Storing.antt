@@ -1,6 +1,6 @@
 -- Labels in a table of so many places. Assumes nothing.
-use Rattle.std.proofs.Common.{◌≡◌, ℕ, ◌+◌, ◌-◌, ◌<◌, ◌≤◌, true, false, cond, leb, List, [], ◌∷◌, ◌++◌, length, take, drop, set, Some, None, Option, sym, refl, ap, ◌∙◌, subst, ap₂, ⊎_elim, append_assoc, append-nil, add-one, arith, length-append, length-drop, take-append-drop}
-use Rattle.std.proofs.lemmas.List.{take_all, take-take, take-append-le, length-take-le, length_push, drop_all, drop-drop, take_at, drop_at, set_split}
+use Rattle.std.proofs.Common.{◌≡◌, ℕ, ◌+◌, ◌-◌, ◌<◌, ◌≤◌, cond, leb, List, [], ◌∷◌, ◌++◌, length, take, drop, set, Some, None, Option, sym, ap, ◌∙◌, subst, ap₂, ⊎_elim, append_assoc, append-nil, add-one, arith, length-append, length-drop, take-append-drop}
+use Rattle.std.proofs.lemmas.List.{take_all, take-append-le, length-take-le, length_push, drop_all, drop-drop, take_at, drop_at, set_split}
 use Rattle.std.proofs.lemmas.Bool.{cond-true, cond-false, le-leb, lt-leb, cases_lt}
 use Rattle.search.specs.Rule.{stored, counted, Stores}
 use Rattle.search.proofs.Offers.{Grows, grows_length, grows_take}

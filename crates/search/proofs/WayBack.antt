@@ -1,12 +1,12 @@
 -- Each label's way back is a route: no node twice, by the laws. Assumes nothing.
-use Rattle.std.proofs.Common.{◌≡◌, ℕ, zero, suc, ◌+◌, ◌<◌, ◌≤◌, true, false, List, [], ◌∷◌, ◌++◌, map, length, get_or, take, sym, refl, ap, ◌∙◌, subst, ap₂, inl, inr, ⊎_elim, arith}
+use Rattle.std.proofs.Common.{◌≡◌, ℕ, zero, suc, ◌+◌, ◌<◌, ◌≤◌, true, false, List, [], ◌∷◌, ◌++◌, map, length, get_or, take, sym, refl, ap, ◌∙◌, subst, ap₂, ⊎_elim, arith}
 use Rattle.std.proofs.lemmas.List.{get_or-map, get_or-take, length-take-le, length_push}
 use Rattle.std.proofs.lemmas.Bool.{both_ways}
 use Rattle.kinds.specs.Kinds.{Model, Laws}
-use Rattle.search.specs.Routes.{Among, Distinct, link_at, heads, Leads, state_of, way, route_of}
+use Rattle.search.specs.Routes.{Among, Distinct, heads, Leads, state_of, way, route_of}
 use Rattle.search.specs.Rule.{Query, label0, beats}
 use Rattle.search.specs.declared.label.Label.{Label}
-use Rattle.search.proofs.Offspring.{Made, beaten_at, beats_from}
+use Rattle.search.proofs.Offspring.{beaten_at, beats_from}
 use Rattle.search.proofs.Tree.{at, Child, Root, Tree}
 use Rattle.search.proofs.Walks.{among_push, distinct_push, link_there, heads_push, leads_push, state_push}
 

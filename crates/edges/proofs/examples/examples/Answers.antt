@@ -1,4 +1,4 @@
-use Rattle.std.proofs.Common.{◌≡◌, ◌+◌, true, false, List, [], ◌∷◌, ◌++◌, map, refl, ap}
+use Rattle.std.proofs.Common.{◌+◌, true, false, List, [], ◌∷◌, ◌++◌, map, refl, ap}
 use Rattle.std.specs.List.{AllByRecursion as All}
 use Rattle.kinds.specs.Rows.{Row as KindRow, Holds as KindHolds, rows as kind_rows}
 use Rattle.edges.specs.Rows.{Row, Holds, of_kind, opens}

@@ -1,4 +1,4 @@
-use Rattle.std.proofs.Common.{◌≡◌, ◌<◌, min, [], length, take, set, Ok, sym, refl, subst, arith}
+use Rattle.std.proofs.Common.{◌<◌, min, [], length, take, set, Ok, sym, refl, subst, arith}
 use Rattle.std.proofs.lemmas.List.{length-map, length-take-le}
 use Rattle.std.proofs.lemmas.Result.{err_from_is_err_and}
 use Rattle.net.specs.Calls.{numbers_of, Books}

@@ -1,4 +1,4 @@
-use Rattle.std.proofs.Common.{◌≡◌, ◌-◌, Bool, false, List, length, take, replicate, sym, ap, ◌∙◌, subst, arith}
+use Rattle.std.proofs.Common.{◌≡◌, ◌-◌, Bool, false, List, length, take, replicate, ap, ◌∙◌, arith}
 use lib.ListN.{length-replicate}
 use Rattle.search.specs.Answers.{answer}
 use Rattle.search.specs.Rule.{asked, made, stored}

@@ -1,4 +1,4 @@
-use Rattle.std.proofs.Common.{◌≡◌, true, false, [], ◌∷◌, sym, refl}
+use Rattle.std.proofs.Common.{true, false, [], refl}
 use Rattle.net.specs.Ledger.{after}
 use Rattle.net.specs.Tables.{table}
 use Rattle.net.specs.declared.types.Call.TheVariants.{Add, Withdraw, Open}

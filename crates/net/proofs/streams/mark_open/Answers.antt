@@ -1,4 +1,4 @@
-use Rattle.std.proofs.Common.{◌≡◌, sym, ap, ◌∙◌, arith}
+use Rattle.std.proofs.Common.{sym, ap, ◌∙◌, arith}
 use Rattle.net.specs.Tables.{is_open_to, load, flags_for}
 use Rattle.net.proofs.Flags.{flag_of, length-flags_for}
 use Rattle.net.proofs.Written.{written_none, written_more, written_all}

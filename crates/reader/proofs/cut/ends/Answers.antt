@@ -1,4 +1,4 @@
-use Rattle.std.proofs.Common.{length, drop, ap, subst, arith, length-drop}
+use Rattle.std.proofs.Common.{drop, subst, arith, length-drop}
 use Rattle.std.proofs.lemmas.List.{take_rest}
 use Rattle.reader.proofs.Splits.{First, line_more, line_last}
 use Rattle.reader.proofs.cut.ends.Goals as goal

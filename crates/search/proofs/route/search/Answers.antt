@@ -1,4 +1,3 @@
-use Rattle.std.proofs.Common.{arith}
 use Rattle.search.specs.Rule.{asked, made}
 use Rattle.search.proofs.Promised.{promised_full, promised_fits, answer_full, answer_fits}
 use Rattle.search.proofs.Storing.{making_fits}

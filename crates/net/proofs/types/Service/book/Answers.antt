@@ -1,6 +1,6 @@
 use Rattle.std.proofs.Common.{true, refl, ap, ◌∙◌}
 use Rattle.net.specs.Calls.{book_told_by, book_left}
-use Rattle.net.specs.Ledger.{after, answer}
+use Rattle.net.specs.Ledger.{after}
 use Rattle.net.specs.Tables.{table}
 use Rattle.net.specs.declared.types.Call.TheVariants.{Book}
 use Rattle.net.proofs.Following.{follows}

@@ -1,6 +1,6 @@
 use Rattle.std.proofs.Common.{true, refl}
 use Rattle.net.specs.Calls.{load_told}
-use Rattle.net.specs.Ledger.{after, answer}
+use Rattle.net.specs.Ledger.{after}
 use Rattle.net.specs.Tables.{table}
 use Rattle.net.specs.declared.types.Call.TheVariants.{Load}
 use Rattle.net.proofs.Following.{follows}

@@ -1,6 +1,5 @@
-use Rattle.std.proofs.Common.{ap, arith}
+use Rattle.std.proofs.Common.{arith}
 use Rattle.kinds.specs.BudgetLaws.{filled}
-use Rattle.kinds.specs.declared.budget.BudgetState.{BudgetState}
 use Rattle.kinds.proofs.budget.rules.BudgetKind.extend.Goals as goal
 
 pub returns : goal.returns
