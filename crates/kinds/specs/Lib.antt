@@ -10,6 +10,7 @@ pub mod Rows
 pub mod Stopped
 pub mod Views
 pub mod BudgetLaws
+pub mod ClockLaws
 pub mod DuctLaws
 pub mod Bits
 pub mod PairLaws

@@ -11,7 +11,7 @@ use Rattle.search.specs.Rule.{Query, made}
 use Rattle.search.specs.declared.answer.Best.{Best}
 use Rattle.search.specs.declared.label.Link.{Link}
 use Rattle.search.proofs.Promised.{best_cheapest, best_none}
-use Rattle.net.specs.Laws.{uses_of, WithinLimits, WorstWithin, Kept, Searches, Fair, Accepted, LawsOfRun}
+use Rattle.net.specs.Laws.{uses_of, WithinLimits, WorstWithin, Kept, Searches, Fair, Accepted, LawsOfRun, ChosenInRun}
 use Rattle.net.specs.Ledger.{Entry, Ledger, Site, numbers, asks, answer, entered, changed, after}
 use Rattle.net.specs.Questions.{Told, node_count, book_refusal, found_of, search_told}
 use Rattle.net.specs.declared.types.Call.{Call}
@@ -109,5 +109,7 @@ module _ {K S U : Type 0} (m : Model K S U) (site : Site) (laws : Laws m) where
     kept = λ front back is. kept (after m site front) (sound_after m site laws front);
     cheapest = λ front r k places back is e. accepted_of (after m site front) k r places (passed (after m site front) k r places e) e;
     fair = λ front r k places back is searches. fair (after m site front) k r places searches;
-    chosen = λ front back is. chosen-after m site laws front;
   }
+
+  pub chosen_in_run : (calls : List (Call K U)) → ChosenInRun m site calls
+  chosen_in_run calls front back is = chosen-after m site laws front

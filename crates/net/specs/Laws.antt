@@ -61,4 +61,12 @@ module _ {K S U : Type 0} (m : Model K S U) (site : Site) where
     pub kept : (front back : List (Call K U)) → calls ≡ front ++ back → Kept (after m site front)
     pub cheapest : (front : List (Call K U)) (r : Request) (k : K) (places : ℕ) (back : List (Call K U)) → calls ≡ front ++ Book r k places ∷ back → (answer m site (after m site front) (Book r k places)).0 ≡ 0 → Accepted (after m site front) k r places
     pub fair : (front : List (Call K U)) (r : Request) (k : K) (places : ℕ) (back : List (Call K U)) → calls ≡ front ++ Book r k places ∷ back → Searches (after m site front) r → Fair (after m site front) k r places
-    pub chosen : (front back : List (Call K U)) → calls ≡ front ++ back → All (Chosen front) (after m site front).streams
+
+  -- at every point of a run, every standing stream got the cheapest, then the shortest, of all routes open to it when it was booked
+  abbrev pub ChosenInRun : List (Call K U) → Type 0
+  ChosenInRun calls = (front back : List (Call K U)) → calls ≡ front ++ back → All (Chosen front) (after m site front).streams
+
+  -- all that is promised over a run
+  pub record PromiseOfRun (calls : List (Call K U)) : Type 0 where
+    pub laws : LawsOfRun calls
+    pub chosen : ChosenInRun calls

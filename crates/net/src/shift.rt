@@ -2,7 +2,7 @@
 ghost use Rattle.std.specs.Prelude.{◌≡◌, ◌≤◌, true, false, List, [], ◌∷◌, length, IfOk, vec_len, vec_capacity, MatchResult};
 ghost use Rattle.net.specs.Calls.{shown};
 ghost use Rattle.net.specs.Labels.{LabelsFollow, labels_after};
-ghost use Rattle.net.specs.Laws.{LawsOfRun};
+ghost use Rattle.net.specs.Laws.{LawsOfRun, ChosenInRun};
 ghost use Rattle.net.specs.Ledger.{Site, after, begun};
 ghost use Rattle.net.specs.Matching.{Matches, Follows};
 ghost use Rattle.net.specs.Performed.{told_of, is_serving, nodes_of, links_of, Sofar, Ran, site_of};
@@ -265,6 +265,7 @@ pub fn perform<'a, 'b, K: Kind>(
 ) -> Result<Shift<'a, 'b, K::Use>, AllocError>
     ensures ran { IfOk result (λ s. Ran K.Kind.model (site_of nodes (length links.old) (length streams.old) (length labels.old)) calls.now s.serving (table s.link_count s.links.now) (table s.stream_count s.streams.now) s.answers.items) }
     ensures laws { LawsOfRun K.Kind.model (site_of nodes (length links.old) (length streams.old) (length labels.old)) calls.now }
+    ensures chosen { ChosenInRun K.Kind.model (site_of nodes (length links.old) (length streams.old) (length labels.old)) calls.now }
     ensures room { length labels.new ≡ length labels.old }
     ensures labels { MatchResult result (λ _. labels.new ≡ labels_after K.Kind.model (site_of nodes (length links.old) (length streams.old) (length labels.old)) begun calls.now labels.old) (λ _. labels.new ≡ labels.old) }
 {

@@ -20,7 +20,7 @@ use Rattle.kinds.specs.declared.DuctUse.{DuctUse}
 use Rattle.kinds.specs.declared.Ducts.{Ducts}
 use Rattle.kinds.specs.declared.Pair.{Pair}
 use Rattle.kinds.specs.declared.PairUse.{PairUse}
-use Rattle.net.specs.Laws.{LawsOfRun, uses_of}
+use Rattle.net.specs.Laws.{PromiseOfRun, uses_of}
 use Rattle.net.specs.Ledger.{Site, after}
 use Rattle.net.specs.declared.Call.{Call}
 use Rattle.orders.specs.Desk.{Desk, plain_net, gated_net, plain_model, gated_model, supplied, reply, next_desk, replies, desk_after}
@@ -68,18 +68,18 @@ passing k us fits =
     not_true false e = refl
 
 module _ (nodes n : ℕ) (ls : List (List ℕ)) (out out' : List ℕ) where
-  pub plain_served : out' ≡ out ++ with_feeds (numbered (n + 1) (site_replies plain_model plain_form (supplied nodes) [] ls)) → LawsOfRun plain_model (supplied nodes) (site_calls plain_model plain_form (supplied nodes) [] ls) → Served (plain_net nodes []) n ls out out'
+  pub plain_served : out' ≡ out ++ with_feeds (numbered (n + 1) (site_replies plain_model plain_form (supplied nodes) [] ls)) → PromiseOfRun plain_model (supplied nodes) (site_calls plain_model plain_form (supplied nodes) [] ls) → Served (plain_net nodes []) n ls out out'
   plain_served wrote laws =
       served plain_model plain_form (supplied nodes) (plain_net nodes) (λ calls l. refl) (λ calls l. refl) n ls out out' wrote (
         laws,
-        (laws.kept _ [] (sym (append-nil _))).worst (of_second budget_model budget_model itself),
+        (laws.laws.kept _ [] (sym (append-nil _))).worst (of_second budget_model budget_model itself),
       )
 
-  pub gated_served : out' ≡ out ++ with_feeds (numbered (n + 1) (site_replies gated_model gated_form (supplied nodes) [] ls)) → LawsOfRun gated_model (supplied nodes) (site_calls gated_model gated_form (supplied nodes) [] ls) → Served (gated_net nodes []) n ls out out'
+  pub gated_served : out' ≡ out ++ with_feeds (numbered (n + 1) (site_replies gated_model gated_form (supplied nodes) [] ls)) → PromiseOfRun gated_model (supplied nodes) (site_calls gated_model gated_form (supplied nodes) [] ls) → Served (gated_net nodes []) n ls out out'
   gated_served wrote laws =
       served gated_model gated_form (supplied nodes) (gated_net nodes) (λ calls l. refl) (λ calls l. refl) n ls out out' wrote (
         laws,
-        All-weaker _ _ (λ e fits. passing e.kind (uses_of gated_model (supplied nodes) (after gated_model (supplied nodes) (site_calls gated_model gated_form (supplied nodes) [] ls)) e) fits) _ (laws.kept _ [] (sym (append-nil _))).limits,
+        All-weaker _ _ (λ e fits. passing e.kind (uses_of gated_model (supplied nodes) (after gated_model (supplied nodes) (site_calls gated_model gated_form (supplied nodes) [] ls)) e) fits) _ (laws.laws.kept _ [] (sym (append-nil _))).limits,
       )
 
 -- what two facts of a result give together

@@ -12,7 +12,7 @@ use Rattle.kinds.specs.declared.DuctUse.{DuctUse}
 use Rattle.kinds.specs.declared.Ducts.{Ducts}
 use Rattle.kinds.specs.declared.Pair.{Pair}
 use Rattle.kinds.specs.declared.PairUse.{PairUse}
-use Rattle.net.specs.Laws.{LawsOfRun, uses_of}
+use Rattle.net.specs.Laws.{PromiseOfRun, uses_of}
 use Rattle.net.specs.Ledger.{Entry, Ledger, after}
 use Rattle.reader.specs.Laws.{with_feeds}
 use Rattle.reader.specs.Split.{lines}
@@ -63,8 +63,8 @@ pub record Passing (clock : Clock) (us : List (PairUse ClockUse DuctUse)) : Type
 -- gated site its gates are open and no duct is passed twice
 abbrev pub Promised : Desk → Type 0
 Promised no_net = Unit {0}
-Promised (plain_net nodes calls) = LawsOfRun plain_model (supplied nodes) calls × All (InTime nodes (after plain_model (supplied nodes) calls)) (after plain_model (supplied nodes) calls).streams
-Promised (gated_net nodes calls) = LawsOfRun gated_model (supplied nodes) calls × All (λ e. Passing e.kind.second.first (gates nodes (after gated_model (supplied nodes) calls) e)) (after gated_model (supplied nodes) calls).streams
+Promised (plain_net nodes calls) = PromiseOfRun plain_model (supplied nodes) calls × All (InTime nodes (after plain_model (supplied nodes) calls)) (after plain_model (supplied nodes) calls).streams
+Promised (gated_net nodes calls) = PromiseOfRun gated_model (supplied nodes) calls × All (λ e. Passing e.kind.second.first (gates nodes (after gated_model (supplied nodes) calls) e)) (after gated_model (supplied nodes) calls).streams
 
 -- the line begins with the number and a comma
 abbrev pub Begins : ℕ → List ℕ → Type 0

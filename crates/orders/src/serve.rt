@@ -1,6 +1,6 @@
 // A site whose net exists: its lines to calls, the calls performed, their answers to lines.
 ghost use Rattle.std.specs.Prelude.{◌≡◌, ◌+◌, [], map, length, drop, IfOk, string_bytes, OnOk};
-ghost use Rattle.net.specs.Laws.{LawsOfRun};
+ghost use Rattle.net.specs.Laws.{PromiseOfRun};
 ghost use Rattle.net.specs.Ledger.{answers, begun};
 ghost use Rattle.net.specs.Performed.{told_of};
 ghost use Rattle.reader.specs.Laws.{with_feeds};
@@ -79,7 +79,7 @@ fn perform_all<K: SiteKind>(
     calls: &[Call<K, K::Use>],
 ) -> Result<Vec<Answer>, AnswerFault>
     ensures answered { IfOk result (λ v. map told_of v.items ≡ answers K.Kind.model (supplied nodes) begun calls.now) }
-    ensures laws { OnOk result (LawsOfRun K.Kind.model (supplied nodes) calls.now) }
+    ensures laws { OnOk result (PromiseOfRun K.Kind.model (supplied nodes) calls.now) }
 {
     let (kind, taken) = K::blank();
     let link = Link {
@@ -117,7 +117,7 @@ pub fn serve<K: SiteKind>(
     out: &mut String,
 ) -> Result<(), AnswerFault>
     ensures written { Written (string_bytes out.old) (with_feeds (numbered (line_number reader.old + 1) (site_replies K.Kind.model K.SiteKind.form (supplied nodes) [] (lines_left reader.old)))) result (string_bytes out.new) }
-    ensures laws { OnOk result (LawsOfRun K.Kind.model (supplied nodes) (site_calls K.Kind.model K.SiteKind.form (supplied nodes) [] (lines_left reader.old))) }
+    ensures laws { OnOk result (PromiseOfRun K.Kind.model (supplied nodes) (site_calls K.Kind.model K.SiteKind.form (supplied nodes) [] (lines_left reader.old))) }
 {
     let orders = read_orders::<K>(heap, reader)?;
     let answers = perform_all(heap, nodes, &orders.calls)?;

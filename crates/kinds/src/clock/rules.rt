@@ -2,7 +2,7 @@
 ghost use Rattle.std.specs.Prelude.{◌≡◌};
 ghost use Rattle.kinds.specs.Arrivals.{Arrives};
 ghost use Rattle.kinds.specs.Clock.{clock_model};
-ghost use Rattle.std.proofs.Common.{rules, arith};
+ghost use Rattle.kinds.specs.ClockLaws.{clock_laws};
 
 use super::{Clock, ClockState, ClockUse};
 use crate::kind::{Kind, state_along};
@@ -23,7 +23,7 @@ impl Kind for Clock {
 
     ghost model = { clock_model };
 
-    ghost laws = { first_of (Prim.search rules, Prim.grind (arith, Self.row.coded.inj)) };
+    ghost laws = { clock_laws };
 
     fn start(&self) -> ClockState {
         ClockState {

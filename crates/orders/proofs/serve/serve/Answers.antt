@@ -1,6 +1,6 @@
 use Rattle.std.proofs.Common.{◌≡◌, ◌+◌, false, [], map, vec_items, string_bytes, sym, ap, ◌∙◌, subst, ap₂}
 use Rattle.std.proofs.lemmas.Result.{IfOk-weaker}
-use Rattle.net.specs.Laws.{LawsOfRun}
+use Rattle.net.specs.Laws.{PromiseOfRun}
 use Rattle.net.specs.Ledger.{answers, begun}
 use Rattle.net.specs.Performed.{told_of}
 use Rattle.reader.specs.Steps.{lines_left, line_number}
@@ -20,12 +20,12 @@ returns g c =
     let performed = c.in_ok-answers.ensures in
     let calls : c.deref.result.now ≡ calls_in (reads form false ls) = c.deref.ensures.value ∙ orders.calls in
     let told : map told_of (vec_items c.in_ok-answers.answers) ≡ answers m site begun c.deref.result.now = performed.answered in
-    let kept : LawsOfRun m site c.deref.result.now = performed.laws in
+    let kept : PromiseOfRun m site c.deref.result.now = performed.laws in
     let text =
     ap₂ entry_texts (ap (map entry_of) c.deref-2.ensures.value ∙ orders.lines) (ap (map told_of) c.deref-3.ensures.value ∙ told ∙ ap (answers m site begun) calls)
     ∙ site_texts m site form ls (line_number c.args.reader.now + 1) [] in
-    let laws = subst (LawsOfRun m site) (calls ∙ sym (all_calls m site form ls [])) kept in
+    let laws = subst (PromiseOfRun m site) (calls ∙ sym (all_calls m site form ls [])) kept in
     record {
       written = subst (λ l. Written (string_bytes c.args.out.now) l c.write_lines.result (string_bytes c.write_lines.new.out)) text c.write_lines.ensures;
-      laws = IfOk-weaker c.write_lines.result _ (λ _. LawsOfRun m site _) (λ _ _. laws) c.write_lines.ensures;
+      laws = IfOk-weaker c.write_lines.result _ (λ _. PromiseOfRun m site _) (λ _ _. laws) c.write_lines.ensures;
     }
