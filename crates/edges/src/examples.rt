@@ -1,6 +1,6 @@
 // The worked examples, and the budgets of a pair.
 ghost use Rattle.std.specs.Prelude.{◌≡◌, length};
-ghost use Rattle.std.specs.List.{AllByRecursion as All};
+ghost use Rattle.std.specs.List.{AllByRecursion};
 ghost use Rattle.edges.specs.Parts.{PartOfItself, PartsOfPair};
 ghost use Rattle.edges.specs.Rows.{Holds, rows};
 
@@ -8,7 +8,7 @@ use kinds::{Kind, Pair, worked_examples};
 
 // How many worked examples there are; each of them holds.
 pub fn examples() -> usize
-    ensures hold { All Holds rows }
+    ensures hold { AllByRecursion Holds rows }
     ensures count { result ≡ length rows }
 {
     worked_examples() + 2

@@ -1,6 +1,6 @@
 -- Calls that follow the ledger. Assumes nothing.
 use Rattle.std.proofs.Common.{◌≡◌, ℕ, suc, ◌+◌, ◌<◌, ◌≤◌, Bool, true, false, cond, eqb, ltb, List, [], ◌∷◌, ◌++◌, map, length, drop, sym, ap, ◌∙◌, subst, ap₂, ⊎_elim, arith}
-use Rattle.std.specs.List.{AllByRecursion as All}
+use Rattle.std.specs.List.{AllByRecursion}
 use Rattle.std.proofs.lemmas.List.{take_at}
 use Rattle.std.proofs.lemmas.Bool.{cases_Bool, cond-true, cond-false, cond_both, lt-ltb, le-ltb, ltb-true, ltb-false}
 use Rattle.kinds.specs.Kinds.{Model, Laws}
@@ -58,7 +58,7 @@ module _ {K S U : Type 0} (m : Model K S U) (site : Site) (n : ℕ) (places : Li
       ∙ sym (cond-false _ _ _ (le-ltb (length places + 2) (length (e.figure ∷ e.asked_for.rate ∷ e.route)) (omega arith))))
       (cases_Bool (ltb (length places) (length (route (record_of e)))))
 
-  show_same : (es : List (Entry K)) → All Measured es → shown (show_told_of (bearing n (map record_of es)) (length places)) (show_list_of (bearing n (map record_of es)) places) ≡ show_within (length places) (unless (stream_refusal (numbers es) n) (show_values m site es n))
+  show_same : (es : List (Entry K)) → AllByRecursion Measured es → shown (show_told_of (bearing n (map record_of es)) (length places)) (show_list_of (bearing n (map record_of es)) places) ≡ show_within (length places) (unless (stream_refusal (numbers es) n) (show_values m site es n))
   show_same [] h = sym (cond-false _ _ _ (le-ltb (length places + 2) 0 (omega arith)))
   show_same (e ∷ es) h =
       ⊎_elim
@@ -74,20 +74,20 @@ module _ {K S U : Type 0} (m : Model K S U) (site : Site) (n : ℕ) (places : Li
       ∙ ap (show_within (length places)) (ap₂ unless (sym (refusal_later (number e) n (numbers es) t)) (sym (cond-false _ _ _ t))))
       (cases_Bool (eqb (number e) n))
 
-  pub show_answer_is : (s : Ledger K U) (b : Table Stream) → s.serving ≡ true → listed 64 b ≡ map record_of s.streams → All Measured s.streams → shown (show_told_of (bearing n (listed 64 b)) (length places)) (show_list_of (bearing n (listed 64 b)) places) ≡ show_within (length places) (answer m site s (Show n))
+  pub show_answer_is : (s : Ledger K U) (b : Table Stream) → s.serving ≡ true → listed 64 b ≡ map record_of s.streams → AllByRecursion Measured s.streams → shown (show_told_of (bearing n (listed 64 b)) (length places)) (show_list_of (bearing n (listed 64 b)) places) ≡ show_within (length places) (answer m site s (Show n))
   show_answer_is s b on is h =
       ap (λ ss. shown (show_told_of (bearing n ss) (length places)) (show_list_of (bearing n ss) places)) is
       ∙ show_same s.streams h
       ∙ ap (show_within (length places)) (sym (cond-true _ _ _ on))
 
 module _ {K S U : Type 0} (m : Model K S U) (site : Site) (n : ℕ) where
-  few_values : (es : List (Entry K)) → All Measured es → length (show_values m site es n) ≤ 18
+  few_values : (es : List (Entry K)) → AllByRecursion Measured es → length (show_values m site es n) ≤ 18
   few_values [] h = omega arith
   few_values (e ∷ es) h =
       cond_both (eqb (number e) n) (e.figure ∷ e.asked_for.rate ∷ e.route) (show_values m site es n) (λ vs. length vs ≤ 18) (λ _. omega (arith, h.0.short)) (λ _. few_values es h.1)
 
   -- sixteen places are enough for every route
-  pub show_whole_is : (places : ℕ) → 16 ≤ places → (s : Ledger K U) → All Measured s.streams → show_within places (answer m site s (Show n)) ≡ answer m site s (Show n)
+  pub show_whole_is : (places : ℕ) → 16 ≤ places → (s : Ledger K U) → AllByRecursion Measured s.streams → show_within places (answer m site s (Show n)) ≡ answer m site s (Show n)
   show_whole_is places enough s h =
       let refusal = stream_refusal (numbers s.streams) n in
       let values = show_values m site s.streams n in
@@ -98,7 +98,7 @@ module _ {K S U : Type 0} (m : Model K S U) (site : Site) (n : ℕ) where
       cond-false _ _ _ (le-ltb (places + 2) (length (answer m site s (Show n)).1) (omega arith))
 
 module _ {K S U : Type 0} (m : Model K S U) (laws : Laws m) (site : Site) (calls : List (Call K U)) (n nodes : ℕ) (t : Table (Link U)) (b : Table Stream) (h : Matches site (after m site calls) true nodes t b) (told : Told) (places places' : List ℕ) (is : told ≡ show_told b n places) (left : places' ≡ show_list b n places) where
-  measured : All Measured (after m site calls).streams
+  measured : AllByRecursion Measured (after m site calls).streams
   measured = sound_measured m (after m site calls) (sound_after m site laws calls)
 
   -- a show into any list

@@ -1,7 +1,7 @@
 -- Each call, on a net and a book that are the ledger's, does what the ledger does. Assumes nothing.
 use Rattle.std.proofs.Common.{◌≡◌, ℕ, suc, ◌<◌, ◌≤◌, min, true, false, cond, eqb, leb, List, [], ◌∷◌, ◌++◌, map, length, take, drop, Some, None, Option, sym, refl, ap, ◌∙◌, subst, ap₂, ⊎_elim, arith, length-append, length-drop}
 use mathlib.Core.Path.{fun_ext}
-use Rattle.std.specs.List.{remove, AllByRecursion as All}
+use Rattle.std.specs.List.{remove, AllByRecursion}
 use Rattle.std.proofs.lemmas.List.{length-map, length_push, take_at, take-map, drop-map, map-append}
 use Rattle.std.proofs.lemmas.List.Sums.{fold_push}
 use Rattle.std.proofs.lemmas.Bool.{cases_Bool, cond-true, cond-false, eq-eqb, ne_eqb, eqb-true, eqb-false, leb-false}
@@ -179,7 +179,7 @@ module _ {K S U : Type 0} (m : Model K S U) (site : Site) (s : Ledger K U) (node
               (λ no'. subst (Matches site s true nodes t) (sym (cond-false _ _ _ (ne_eqb refusal 0 (λ z. no' (number ∙ z))))) h),
         )
 
-    module _ (measured : All Measured s.streams) where
+    module _ (measured : AllByRecursion Measured s.streams) where
       load_is : load (listed 64 b) ≡ booked_over s.streams
       load_is = ap load h.streams_are ∙ fun_ext (λ i. load_same s.streams measured i)
 
@@ -206,7 +206,7 @@ module _ {K S U : Type 0} (m : Model K S U) (site : Site) (s : Ledger K U) (node
           }),
     )
 
-    module _ (measured : All Measured s.streams) where
+    module _ (measured : AllByRecursion Measured s.streams) where
       -- the search of a booking, and the questions before it
       pub booking_same : (k : K) (r : Request) → booking m nodes (listed 512 t) (listed 64 b) (room 64 b) k r ≡ asks m site s k r
       booking_same k r = ap₂ (λ ls f. query ls f k r) h.links_are (load_is measured)

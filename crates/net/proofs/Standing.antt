@@ -1,6 +1,6 @@
 -- What holds of the streams that stand, through every call. Assumes nothing.
 use Rattle.std.proofs.Common.{◌≡◌, ℕ, zero, suc, ◌+◌, ◌≤◌, min, Bool, true, false, cond, eqb, List, [], ◌∷◌, ◌++◌, map, length, get_or, take, drop, replicate, Some, None, fold, sum_by, Option, sym, refl, ap, ◌∙◌, subst, ap₂, ⊎_elim, arith}
-use Rattle.std.specs.List.{remove, AllByRecursion as All}
+use Rattle.std.specs.List.{remove, AllByRecursion}
 use Rattle.std.proofs.ByRecursion.{All-append, All-push, All-take, All-drop, All-weaker}
 use Rattle.std.proofs.lemmas.List.{take_at, take-take}
 use Rattle.std.proofs.lemmas.List.Sums.{sum_by-cons, sum_by_push}
@@ -84,20 +84,20 @@ module _ {K S U : Type 0} (m : Model K S U) where
   pub record Sound (s : Ledger K U) : Type 0 where
     -- no stream stands while the net is being laid
     pub idle : s.serving ≡ false → s.streams ≡ []
-    pub stands : All (Stands s.links) s.streams
+    pub stands : AllByRecursion (Stands s.links) s.streams
     pub loads : (i : ℕ) (l : Link U) → link_at s.links i ≡ l ∷ [] → booked_over s.streams i ≤ l.capacity
 
   sound_empty : (s : Ledger K U) → s.streams ≡ [] → Sound s
   sound_empty s none = record {
     idle = λ _. none;
-    stands = subst (All (Stands s.links)) (sym none) tt;
+    stands = subst (AllByRecursion (Stands s.links)) (sym none) tt;
     loads = λ i l there. subst (λ es. booked_over es i ≤ l.capacity) (sym none) (omega arith);
   }
 
   pub sound_begun : Sound begun
   sound_begun = sound_empty begun refl
 
-  pub sound_measured : (s : Ledger K U) → Sound s → All Measured s.streams
+  pub sound_measured : (s : Ledger K U) → Sound s → AllByRecursion Measured s.streams
   sound_measured s h = All-weaker (Stands s.links) Measured (λ e f. f.measured) s.streams h.stands
 
   -- the ledger with other streams
@@ -171,7 +171,7 @@ module _ {K : Type 0} where
       ∙ take_at e.route (replicate 16 0) (min e.hops 16) (omega (arith, h.hops_is, h.short))
 
   -- the loads that the records say are those of the ledger
-  pub load_same : (es : List (Entry K)) → All Measured es → (i : ℕ) → load (map record_of es) i ≡ booked_over es i
+  pub load_same : (es : List (Entry K)) → AllByRecursion Measured es → (i : ℕ) → load (map record_of es) i ≡ booked_over es i
   load_same [] h i = refl
   load_same (e ∷ es) h i =
       sum_by-cons (λ s. cond (has i (route s)) s.rate 0) (record_of e) (map record_of es)

@@ -1,6 +1,6 @@
 -- What holds after every list of calls: limits, cheapest routes, loads. Assumes nothing.
 use Rattle.std.specs.Prelude.{◌≡◌, ℕ, ◌<◌, ◌≤◌, min, Bool, true, ◌↔◌, List, [], ◌∷◌, ◌++◌, map, length}
-use Rattle.std.specs.List.{AllByRecursion as All}
+use Rattle.std.specs.List.{AllByRecursion}
 use Rattle.kinds.specs.Choices.{Choice, sum_under}
 use Rattle.kinds.specs.Kinds.{Model, along}
 use Rattle.kinds.specs.Views.{BudgetPart}
@@ -28,8 +28,8 @@ module _ {K S U : Type 0} (m : Model K S U) (site : Site) where
       (flags : List Bool) → Choice (v.budget e.kind).allowance (map v.use_of (uses_of s e)) flags → sum_under (map v.use_of (uses_of s e)) flags ≤ (v.budget e.kind).limit
 
   pub record Kept (s : Ledger K U) : Type 0 where
-    pub limits : All (WithinLimits s) s.streams
-    pub worst : (v : BudgetPart m) → All (WorstWithin v s) s.streams
+    pub limits : AllByRecursion (WithinLimits s) s.streams
+    pub worst : (v : BudgetPart m) → AllByRecursion (WorstWithin v s) s.streams
     -- a link's load, the sum of the rates booked over it and not yet ended, is never above its capacity
     pub loads : (i : ℕ) (l : Link U) → link_at s.links i ≡ l ∷ [] → booked_over s.streams i ≤ l.capacity
 
@@ -64,7 +64,7 @@ module _ {K S U : Type 0} (m : Model K S U) (site : Site) where
 
   -- at every point of a run, every standing stream got the cheapest, then the shortest, of all routes open to it when it was booked
   abbrev pub ChosenInRun : List (Call K U) → Type 0
-  ChosenInRun calls = (front back : List (Call K U)) → calls ≡ front ++ back → All (Chosen front) (after m site front).streams
+  ChosenInRun calls = (front back : List (Call K U)) → calls ≡ front ++ back → AllByRecursion (Chosen front) (after m site front).streams
 
   -- all that is promised over a run
   pub record PromiseOfRun (calls : List (Call K U)) : Type 0 where

@@ -2,7 +2,7 @@
 use Rattle.std.proofs.Common.{◌≡◌, ℕ, zero, suc, ◌+◌, ◌/◌, ◌%◌, ◌<◌, ◌≤◌, false, eqb, ltb, List, [], ◌∷◌, ◌++◌, length, get_or, take, codes, decimal, sym, refl, ap, ◌∙◌, subst, ⊎_elim, arith}
 use Rattle.std.proofs.lemmas.Bool.{cases_Bool, cond-true, cond-false, le-leb}
 use Rattle.std.specs.Fmt.{digits, digits_onto, digit_glyph}
-use Rattle.std.specs.List.{AllByRecursion as All}
+use Rattle.std.specs.List.{AllByRecursion}
 use Rattle.reader.specs.Laws.{Free}
 use Rattle.reader.specs.Split.{lines}
 use Rattle.reader.proofs.Laws.{lines_law}
@@ -48,7 +48,7 @@ reply_free n (refused number field) = append_free (decimal n) (codes ",refused" 
     word_free : Free 10 (codes ",refused")
     word_free = ((λ e. absurd (omega arith)), ((λ e. absurd (omega arith)), ((λ e. absurd (omega arith)), ((λ e. absurd (omega arith)), ((λ e. absurd (omega arith)), ((λ e. absurd (omega arith)), ((λ e. absurd (omega arith)), ((λ e. absurd (omega arith)), tt))))))))
 
-numbered_free : (n : ℕ) (rs : List Reply) → All (Free 10) (numbered n rs)
+numbered_free : (n : ℕ) (rs : List Reply) → AllByRecursion (Free 10) (numbered n rs)
 numbered_free n [] = tt
 numbered_free n (r ∷ rs) = (reply_free n r, numbered_free (n + 1) rs)
 

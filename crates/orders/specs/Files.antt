@@ -1,6 +1,6 @@
 -- The answers to a file, and the laws over whole files. Assumes nothing.
 use Rattle.std.specs.Prelude.{◌≡◌, ℕ, ◌+◌, ◌<◌, ◌≤◌, Bool, cond, List, [], ◌∷◌, ◌++◌, map, length, take, codes, decimal, nat_le, slice_index_or}
-use Rattle.std.specs.List.{AllByRecursion as All}
+use Rattle.std.specs.List.{AllByRecursion}
 use Rattle.kinds.specs.Arrivals.{Late}
 use Rattle.kinds.specs.Choices.{Choice, sum_under}
 use Rattle.kinds.specs.Passes.{ducts_of, Twice}
@@ -63,8 +63,8 @@ pub record Passing (clock : Clock) (us : List (PairUse ClockUse DuctUse)) : Type
 -- gated site its gates are open and no duct is passed twice
 abbrev pub Promised : Desk → Type 0
 Promised no_net = Unit {0}
-Promised (plain_net nodes calls) = PromiseOfRun plain_model (supplied nodes) calls × All (InTime nodes (after plain_model (supplied nodes) calls)) (after plain_model (supplied nodes) calls).streams
-Promised (gated_net nodes calls) = PromiseOfRun gated_model (supplied nodes) calls × All (λ e. Passing e.kind.second.first (gates nodes (after gated_model (supplied nodes) calls) e)) (after gated_model (supplied nodes) calls).streams
+Promised (plain_net nodes calls) = PromiseOfRun plain_model (supplied nodes) calls × AllByRecursion (InTime nodes (after plain_model (supplied nodes) calls)) (after plain_model (supplied nodes) calls).streams
+Promised (gated_net nodes calls) = PromiseOfRun gated_model (supplied nodes) calls × AllByRecursion (λ e. Passing e.kind.second.first (gates nodes (after gated_model (supplied nodes) calls) e)) (after gated_model (supplied nodes) calls).streams
 
 -- the line begins with the number and a comma
 abbrev pub Begins : ℕ → List ℕ → Type 0

@@ -1,6 +1,6 @@
 -- The laws of parting a text.
 use Rattle.std.proofs.Common.{◌≡◌, ℕ, ◌<◌, eqb, List, [], ◌∷◌, ◌++◌, length, sym, refl, ap, ◌∙◌, arith, length-append}
-use Rattle.std.specs.List.{AllByRecursion as All}
+use Rattle.std.specs.List.{AllByRecursion}
 use Rattle.std.proofs.lemmas.Bool.{eqb-true, eqb-false, eq-eqb, ne_eqb, cond-true, cond-false, cond_both}
 use Rattle.reader.specs.Split.{onto, split, lines, fields}
 use Rattle.reader.specs.Laws.{Free, with_feeds, with_commas, LinesLaw, FieldsLaw}
@@ -13,15 +13,15 @@ split_end : (s : ℕ) (p : List ℕ) → Free s p → split s ([] ∷ []) p ≡ 
 split_end s [] free = refl
 split_end s (b ∷ p) free = cond-false _ _ _ (ne_eqb b s free.0) ∙ ap (onto b) (split_end s p free.1)
 
-free_onto : (s b : ℕ) (ps : List (List ℕ)) → (b ≡ s → ⊥) → All (Free s) ps → All (Free s) (onto b ps)
+free_onto : (s b : ℕ) (ps : List (List ℕ)) → (b ≡ s → ⊥) → AllByRecursion (Free s) ps → AllByRecursion (Free s) (onto b ps)
 free_onto s b [] apart h = ((apart, tt), tt)
 free_onto s b (p ∷ ps) apart h = ((apart, h.0), h.1)
 
-free_split : (s : ℕ) (last : List (List ℕ)) (bs : List ℕ) → All (Free s) last → All (Free s) (split s last bs)
+free_split : (s : ℕ) (last : List (List ℕ)) (bs : List ℕ) → AllByRecursion (Free s) last → AllByRecursion (Free s) (split s last bs)
 free_split s last [] h = h
 free_split s last (b ∷ bs) h =
     let rest = free_split s last bs h in
-    cond_both (eqb b s) _ _ (All (Free s)) (λ e. (tt, rest)) (λ e. free_onto s b _ (eqb-false b s e) rest)
+    cond_both (eqb b s) _ _ (AllByRecursion (Free s)) (λ e. (tt, rest)) (λ e. free_onto s b _ (eqb-false b s e) rest)
 
 with_feeds-onto : (b : ℕ) (ls : List (List ℕ)) → 0 < length (with_feeds ls) → with_feeds (onto b ls) ≡ b ∷ with_feeds ls
 with_feeds-onto b [] h = absurd (omega arith)
@@ -36,7 +36,7 @@ with_feeds_front back full some h (b ∷ front) =
     (λ e. ap (λ c. c ∷ with_feeds (lines (front ++ back))) (sym (eqb-true b 10 e)) ∙ ap (λ bs. b ∷ bs) rest)
     (λ e. with_feeds-onto b _ more ∙ ap (λ bs. b ∷ bs) rest)
 
-lines_unique : (ls : List (List ℕ)) → All (Free 10) ls → lines (with_feeds ls) ≡ ls
+lines_unique : (ls : List (List ℕ)) → AllByRecursion (Free 10) ls → lines (with_feeds ls) ≡ ls
 lines_unique [] h = refl
 lines_unique (l ∷ ls) h = split_on 10 [] l (with_feeds ls) h.0 ∙ ap (λ ps. l ∷ ps) (lines_unique ls h.1)
 
@@ -74,7 +74,7 @@ fields_rejoined (b ∷ bs) =
     (λ e. with_commas-cons (fields bs) (fields_some bs) ∙ ap (λ c. c ∷ with_commas (fields bs)) (sym (eqb-true b 44 e)) ∙ ap (λ l. b ∷ l) rest)
     (λ e. with_commas-onto b (fields bs) ∙ ap (λ l. b ∷ l) rest)
 
-fields_unique : (fs : List (List ℕ)) → 0 < length fs → All (Free 44) fs → fields (with_commas fs) ≡ fs
+fields_unique : (fs : List (List ℕ)) → 0 < length fs → AllByRecursion (Free 44) fs → fields (with_commas fs) ≡ fs
 fields_unique [] some h = absurd (omega arith)
 fields_unique (f ∷ []) some h = split_end 44 f h.0
 fields_unique (f ∷ g ∷ fs) some h =

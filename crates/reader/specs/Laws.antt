@@ -1,11 +1,11 @@
 -- What parting keeps: the pieces rejoin to the bytes, and no other pieces do.
 use Rattle.std.specs.Prelude.{◌≡◌, ℕ, ◌<◌, List, [], ◌∷◌, ◌++◌, length, ◌≢◌}
-use Rattle.std.specs.List.{AllByRecursion as All}
+use Rattle.std.specs.List.{AllByRecursion}
 use Rattle.reader.specs.Split.{lines, fields}
 
 -- s is not among the bytes
 abbrev pub Free : ℕ → List ℕ → Type 0
-Free s bs = All (λ b. b ≢ s) bs
+Free s bs = AllByRecursion (λ b. b ≢ s) bs
 
 -- each line with a line feed after it
 abbrev pub with_feeds : List (List ℕ) → List ℕ
@@ -23,12 +23,12 @@ pub record LinesLaw : Type 0 where
   pub empty : with_feeds (lines []) ≡ []
   pub ended : (front : List ℕ) → with_feeds (lines (front ++ 10 ∷ [])) ≡ front ++ 10 ∷ []
   pub unended : (front : List ℕ) (b : ℕ) → (b ≢ 10) → with_feeds (lines (front ++ b ∷ [])) ≡ front ++ b ∷ 10 ∷ []
-  pub free : (text : List ℕ) → All (Free 10) (lines text)
-  pub unique : (ls : List (List ℕ)) → All (Free 10) ls → lines (with_feeds ls) ≡ ls
+  pub free : (text : List ℕ) → AllByRecursion (Free 10) (lines text)
+  pub unique : (ls : List (List ℕ)) → AllByRecursion (Free 10) ls → lines (with_feeds ls) ≡ ls
 
 -- a line has a field, and its fields rejoin to it
 pub record FieldsLaw : Type 0 where
   pub some : (line : List ℕ) → 0 < length (fields line)
   pub rejoined : (line : List ℕ) → with_commas (fields line) ≡ line
-  pub free : (line : List ℕ) → All (Free 44) (fields line)
-  pub unique : (fs : List (List ℕ)) → 0 < length fs → All (Free 44) fs → fields (with_commas fs) ≡ fs
+  pub free : (line : List ℕ) → AllByRecursion (Free 44) (fields line)
+  pub unique : (fs : List (List ℕ)) → 0 < length fs → AllByRecursion (Free 44) fs → fields (with_commas fs) ≡ fs

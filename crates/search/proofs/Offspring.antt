@@ -1,6 +1,6 @@
 -- The labels that one label makes. Assumes nothing.
 use Rattle.std.proofs.Common.{◌≡◌, ℕ, zero, suc, ◌+◌, ◌<◌, ◌≤◌, Bool, true, false, not, ◌&&◌, ◌||◌, eqb, leb, List, [], ◌∷◌, ◌++◌, length, get_or, take, drop, sym, refl, ap, ◌∙◌, subst, ap₂, ⊎_elim, append_assoc, append-nil, arith, length-drop, take-append-drop}
-use Rattle.std.specs.List.{AllByRecursion as All}
+use Rattle.std.specs.List.{AllByRecursion}
 use Rattle.std.proofs.lemmas.List.{get_or_default}
 use Rattle.std.proofs.ByRecursion.{All-weaker, All-append}
 use Rattle.std.proofs.lemmas.Bool.{cases_Bool, cond-true, cond-false, and_parts, and_from, or_parts, or_left, or_right, or_cases, and_right, not-true, not_from_true, not_from_false, eqb-true, eq-eqb, le-leb, leb-true, both_ways, cases_lt}
@@ -66,7 +66,7 @@ module _ {K S U : Type 0} (m : Model K S U) (k : K) (flags : List Bool) (n : ℕ
   record Adds (all rest : List (Link U)) (ls ls' : List (Label S)) : Type 0 where
     more : List (Label S)
     is : ls' ≡ ls ++ more
-    each : All (Made m k flags all n l ls) more
+    each : AllByRecursion (Made m k flags all n l ls) more
 
   one : (all : List (Link U)) (i : ℕ) (link : Link U) (ls : List (Label S)) → i < length all → link ≡ get_or all i link → Adds all (link ∷ []) ls (tried m k flags n l i link ls)
   one all i link ls lt read =
@@ -115,7 +115,7 @@ module _ {K S U : Type 0} (m : Model K S U) (k : K) (flags : List Bool) (n : ℕ
             (λ c h. weaken all ls a.more c (subst (λ x. Made m k flags all n l x c) a.is h)) b.more b.each);
       }
 
-  pub tries_adds : (all : List (Link U)) (ls : List (Label S)) → (more : List (Label S)) × (tries m k flags n l 0 all ls ≡ ls ++ more) × All (Made m k flags all n l ls) more
+  pub tries_adds : (all : List (Link U)) (ls : List (Label S)) → (more : List (Label S)) × (tries m k flags n l 0 all ls ≡ ls ++ more) × AllByRecursion (Made m k flags all n l ls) more
   tries_adds all ls = let a = adds all all 0 ls refl in (a.more, a.is, a.each)
 
   -- a link that was tried left a label that beats its candidate, if that is within

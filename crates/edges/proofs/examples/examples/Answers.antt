@@ -1,10 +1,10 @@
 use Rattle.std.proofs.Common.{◌+◌, true, false, List, [], ◌∷◌, ◌++◌, map, refl, ap}
-use Rattle.std.specs.List.{AllByRecursion as All}
+use Rattle.std.specs.List.{AllByRecursion}
 use Rattle.kinds.specs.Rows.{Row as KindRow, Holds as KindHolds, rows as kind_rows}
 use Rattle.edges.specs.Rows.{Row, Holds, of_kind, opens}
 use Rattle.edges.proofs.examples.examples.Goals as goal
 
-with-more : (rs : List KindRow) (more : List Row) → All KindHolds rs → All Holds more → All Holds (map of_kind rs ++ more)
+with-more : (rs : List KindRow) (more : List Row) → AllByRecursion KindHolds rs → AllByRecursion Holds more → AllByRecursion Holds (map of_kind rs ++ more)
 with-more [] more h h' = h'
 with-more (r ∷ rs) more h h' = (h.0, with-more rs more h.1 h')
 
