@@ -66,14 +66,14 @@ abbrev pub request_of : List ℕ → Request
 request_of ns = record { stream = at ns 0; source = at ns 1; target = at ns 2; rate = at ns 3; hop_limit = at ns 4 }
 
 -- a price budget of the largest limit and a delay budget; the price budget is made first
-abbrev pub plain_limits : (price-allowance delay-allowance delay-limit : ℕ) → Result (Pair Budget Budget) Blame
-plain_limits price-allowance delay-allowance delay-limit =
-    then (budget_of price-allowance top32) (λ price. then (budget_of delay-allowance delay-limit) (λ delay. Ok (record { first = price; second = delay })))
+abbrev pub plain_limits : (price_allowance delay_allowance delay_limit : ℕ) → Result (Pair Budget Budget) Blame
+plain_limits price_allowance delay_allowance delay_limit =
+    then (budget_of price_allowance top32) (λ price. then (budget_of delay_allowance delay_limit) (λ delay. Ok (record { first = price; second = delay })))
 
 -- that price budget, and a clock and a duct set
-abbrev pub gated_limits : (price-allowance start : ℕ) → Result (Pair Budget (Pair Clock Ducts)) Blame
-gated_limits price-allowance start =
-    then (budget_of price-allowance top32) (λ price. Ok (record { first = price; second = record { first = clock_of start; second = record {} } }))
+abbrev pub gated_limits : (price_allowance start : ℕ) → Result (Pair Budget (Pair Clock Ducts)) Blame
+gated_limits price_allowance start =
+    then (budget_of price_allowance top32) (λ price. Ok (record { first = price; second = record { first = clock_of start; second = record {} } }))
 
 -- after hops: price allowance, delay allowance, delay limit
 abbrev pub plain_kind : List ℕ → Result (Pair Budget Budget) Blame

@@ -4,7 +4,7 @@ use lib.ListN.{get_or-replicate}
 use Rattle.std.proofs.lemmas.List.{same_lists, length-map, length_push, length-take-le, get_or_append_left, get_or-append_right, get_or-take, get_or-drop}
 use Rattle.std.proofs.lemmas.Bool.{cases_Bool, cond-true, cond-false, eq-eqb, ne_eqb, ltb-false, leb-true, leb-false, le-leb, cases_lt}
 use Rattle.kinds.specs.Kinds.{Model, Laws}
-use Rattle.search.specs.Answers.{best, fault_number, answer, answer-of}
+use Rattle.search.specs.Answers.{best, fault_number, answer, answer_of}
 use Rattle.search.specs.Routes.{route_of}
 use Rattle.search.specs.Rule.{Query, made, stored}
 use Rattle.search.specs.declared.answer.Best.{Best}
@@ -58,7 +58,7 @@ module _ {K S U : Type 0} (m : Model K S U) (q : Query K U) (places : ℕ) where
   search_told_is : search_told m q places ≡ ((answer m q places).0, drop 1 (answer m q places).1)
   search_told_is = by_fit (ltb places (length (made m q))) (best m q.kind q.target (made m q))
     where
-      by_fit : (full : Bool) (b : Option Best) → cond full (16, []) (found_of b (length (made m q))) ≡ ((cond full (16, []) (answer-of b (length (made m q)))).0, drop 1 (cond full (16, []) (answer-of b (length (made m q)))).1)
+      by_fit : (full : Bool) (b : Option Best) → cond full (16, []) (found_of b (length (made m q))) ≡ ((cond full (16, []) (answer_of b (length (made m q)))).0, drop 1 (cond full (16, []) (answer_of b (length (made m q)))).1)
       by_fit true b = refl
       by_fit false None = refl
       by_fit false (Some b) = refl
@@ -85,10 +85,10 @@ module _ {K S U : Type 0} (m : Model K S U) (q : Query K U) (places : ℕ) where
       (λ fits. by_best (best m q.kind q.target (made m q)) refl fits (e ∙ cond-false _ _ _ fits))
       (cases_Bool (ltb places (length (made m q))))
     where
-      by_best : (b : Option Best) → best m q.kind q.target (made m q) ≡ b → ltb places (length (made m q)) ≡ false → (0, f.label ∷ f.figure ∷ f.hops ∷ f.count ∷ []) ≡ answer-of (best m q.kind q.target (made m q)) (length (made m q)) → Answered f
-      by_best None is fits a = absurd (let z = ap (λ x. x.0) (a ∙ ap (λ o. answer-of o (length (made m q))) is) in omega arith)
+      by_best : (b : Option Best) → best m q.kind q.target (made m q) ≡ b → ltb places (length (made m q)) ≡ false → (0, f.label ∷ f.figure ∷ f.hops ∷ f.count ∷ []) ≡ answer_of (best m q.kind q.target (made m q)) (length (made m q)) → Answered f
+      by_best None is fits a = absurd (let z = ap (λ x. x.0) (a ∙ ap (λ o. answer_of o (length (made m q))) is) in omega arith)
       by_best (Some b) is fits a =
-          let values = ap (λ x. x.1) (a ∙ ap (λ o. answer-of o (length (made m q))) is) in
+          let values = ap (λ x. x.1) (a ∙ ap (λ o. answer_of o (length (made m q))) is) in
           record {
             label = b;
             is_best = is;

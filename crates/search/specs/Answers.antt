@@ -50,14 +50,14 @@ abbrev pub told : Result Found SearchFault → ℕ × List ℕ
 told (Ok f) = (0, f.label ∷ f.figure ∷ f.hops ∷ f.count ∷ [])
 told (Err f) = (fault_number f, [])
 
-abbrev pub answer-of : Option Best → ℕ → ℕ × List ℕ
-answer-of None n = (17, [])
-answer-of (Some b) n = (0, b.label ∷ b.figure ∷ b.hops ∷ n ∷ [])
+abbrev pub answer_of : Option Best → ℕ → ℕ × List ℕ
+answer_of None n = (17, [])
+answer_of (Some b) n = (0, b.label ∷ b.figure ∷ b.hops ∷ n ∷ [])
 
 module _ {K S U : Type 0} (m : Model K S U) (q : Query K U) where
   -- what a search over a table of so many places answers
   abbrev pub answer : ℕ → ℕ × List ℕ
-  answer places = cond (nat_lt places (length (made m q))) (16, []) (answer-of (best m q.kind q.target (made m q)) (length (made m q)))
+  answer places = cond (nat_lt places (length (made m q))) (16, []) (answer_of (best m q.kind q.target (made m q)) (length (made m q)))
 
   -- what the answer says of every route there is; ls is what the table holds then
   pub record Promise (places : ℕ) (r : Result Found SearchFault) (ls : List (Label S)) : Type 0 where

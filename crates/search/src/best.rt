@@ -1,6 +1,6 @@
 // Picks the best label at the target.
 ghost use Rattle.std.specs.Prelude.{◌≡◌, ◌≤◌, length, take};
-ghost use Rattle.search.specs.Answers.{lower, lesser, weighed, best, told, answer-of};
+ghost use Rattle.search.specs.Answers.{lower, lesser, weighed, best, told, answer_of};
 
 use crate::answer::{Best, Found, SearchFault};
 use crate::label::Label;
@@ -65,7 +65,7 @@ pub fn pick<K: Kind>(
     labels: &[Label<K::State>],
 ) -> Result<Found, SearchFault>
     requires { count ≤ length labels.now }
-    ensures { told result ≡ answer-of (best K.Kind.model kind.now target (take count labels.now)) count }
+    ensures { told result ≡ answer_of (best K.Kind.model kind.now target (take count labels.now)) count }
 {
     match best_label(kind, target, &labels[0..count]) {
         None => Err(SearchFault::NoRoute),
