@@ -1,9 +1,9 @@
 // A list that lies at the start of a lent table.
 #![tactic(auto)]
 
-ghost use Rattle.std.specs.Prelude.{◌≡◌, ◌^◌, ◌<◌, ◌≤◌, [], length};
+ghost use Rattle.std.specs.Prelude.{◌≡◌, ◌^◌, ◌<◌, ◌≤◌, not, [], length};
 ghost use Rattle.std.specs.List.{slice_get};
-ghost use Rattle.slice_vec.specs.Tables.{table, room, listed, put, pushed_at, pushed, popped};
+ghost use Rattle.slice_vec.specs.Tables.{table, room, listed, put, has_place, pushed_at, pushed, popped};
 
 use std::marker::Model;
 
@@ -38,6 +38,14 @@ impl<'a, T: Copy, const CAP: usize> SliceVec<'a, T, CAP> {
         ensures within { self.now.count ≤ room CAP self.now }
     {
         &self.places[..self.count]
+    }
+
+    // Whether no place is free.
+    pub fn is_full(&self) -> bool
+        ensures full { result ≡ not (has_place CAP self.now) }
+        ensures within { self.now.count ≤ room CAP self.now }
+    {
+        self.count >= CAP || self.count >= self.places.len()
     }
 
     // Puts an item last and gives its place; `None`, with nothing changed, where no place is free.
