@@ -1,12 +1,13 @@
 -- A booking: what the search's answer says of it. Assumes nothing.
-use Rattle.std.proofs.Common.{◌≡◌, ℕ, suc, ◌+◌, ◌-◌, ◌<◌, ◌≤◌, min, Bool, true, false, cond, ◌&&◌, eqb, ltb, leb, List, [], ◌∷◌, ◌++◌, length, get_or, take, drop, set, replicate, Some, None, Ok, Err, Option, Result, sym, refl, ap, ◌∙◌, ap₂, subst₂, ⊎_elim, arith, length-append, length-drop}
+use Rattle.std.proofs.Common.{◌≡◌, ℕ, suc, ◌+◌, ◌-◌, ◌<◌, ◌≤◌, Bool, true, false, cond, ◌&&◌, eqb, ltb, leb, List, [], ◌∷◌, ◌++◌, length, get_or, take, drop, replicate, Some, None, Ok, Err, Option, sym, refl, ap, ◌∙◌, ap₂, ⊎_elim, arith, length-append, length-drop}
 use lib.ListN.{get_or-replicate}
-use Rattle.std.proofs.lemmas.List.{same_lists, length-map, length_push, length-take-le, get_or_append_left, get_or-append_right, get_or-take, get_or-drop}
-use Rattle.std.proofs.lemmas.Bool.{cases_Bool, cond-true, cond-false, eq-eqb, ne_eqb, ltb-false, leb-true, leb-false, le-leb, cases_lt}
+use Rattle.std.proofs.lemmas.List.{same_lists, length-map, length-take-le, get_or_append_left, get_or-append_right, get_or-take, get_or-drop}
+use Rattle.std.proofs.lemmas.Bool.{cases_Bool, cond-true, cond-false, eq-eqb, ne_eqb, ltb-false, leb-true, leb-false, le-leb, lt-ltb, cases_lt}
 use Rattle.kinds.specs.Kinds.{Model, Laws}
 use Rattle.search.specs.Answers.{best, fault_number, answer, answer_of}
 use Rattle.search.specs.Routes.{route_of}
-use Rattle.search.specs.Rule.{Query, made, stored}
+use Rattle.search.specs.Rule.{Query, made}
+use Rattle.slice_vec.specs.Tables.{Table, room, listed, stored, put, pushed}
 use Rattle.search.specs.declared.answer.Best.{Best}
 use Rattle.search.specs.declared.answer.Found.{Found}
 use Rattle.search.specs.declared.answer.SearchFault.{SearchFault}
@@ -14,15 +15,14 @@ use Rattle.search.specs.declared.answer.SearchFault.TheVariants.{Full, NoRoute}
 use Rattle.search.specs.declared.label.Label.{Label}
 use Rattle.search.specs.declared.label.Link.{Link}
 use Rattle.search.proofs.Promised.{best_inside, best_cheapest, stored-route}
-use Rattle.search.proofs.Storing.{stores_one}
-use Rattle.net.specs.Calls.{numbers_of, booking, booking_told, recorded, recorded_as, written, entered, Books, book_told_by, book_left}
-use Rattle.net.specs.Questions.{told, unless, net_fault_number, book_refusal, route_refusal, found_of, search_told}
-use Rattle.net.specs.Tables.{Table, table, room, listed, place_of, sixteen}
+use Rattle.net.specs.Calls.{numbers_of, booking, first_refusal, recorded, recorded_as, written, entered, Books, book_told_by, book_left, labels_left}
+use Rattle.net.specs.Questions.{unless, net_fault_number, book_refusal, route_refusal, found_of, search_told}
+use Rattle.net.specs.Tables.{place_of, sixteen}
 use Rattle.net.specs.declared.types.NetFault.{NetFault}
 use Rattle.net.specs.declared.types.NetFault.TheVariants.{NodeCount, Tail, Head, LinkEnds, LinksFull, NoLink, StreamZero, StreamTaken, BookFull, Source, Target, StreamEnds, Rate, HopLimit, Search, NoStream, ListShort}
 use Rattle.net.specs.declared.types.Request.{Request}
 use Rattle.net.specs.declared.types.Stream.{Stream}
-use Rattle.net.proofs.Tabled.{length-listed}
+use Rattle.slice_vec.proofs.Tables.{length_within}
 
 -- no refusal has the number 0
 pub fault_some : (f : NetFault) → net_fault_number f ≡ 0 → ⊥
@@ -153,79 +153,59 @@ written_is p le =
         ∙ sym (get_or-take 16 (p ++ replicate 16 0) k d (omega arith) ∙ get_or-append_right p (replicate 16 0) (length p) k d refl after ∙ zeros (k - length p) d (omega arith)))
         (cases_lt k (length p))
 
-module _ {K S U : Type 0} (m : Model K S U) (laws : Laws m) (nodes : ℕ) (links : List (Link U)) (standing : List Stream) (places : ℕ) (k : K) (r : Request) (streams : List Stream) (labels : List (Label S)) where
-  pub books_refused : (f : NetFault) → (net_fault_number f, []) ≡ unless (book_refusal nodes places (numbers_of standing) r) [] → Books m nodes links standing places k r streams labels (Err f) streams labels
+module _ {K S U : Type 0} (m : Model K S U) (laws : Laws m) (nodes : ℕ) (t : Table (Link U)) (b : Table Stream) (k : K) (r : Request) (labels : List (Label S)) where
+  -- the search of the booking, and the first of its questions that is answered no
+  abbrev asks : Query K U
+  asks = booking m nodes (listed 512 t) (listed 64 b) (room 64 b) k r
+
+  abbrev refusal : ℕ
+  refusal = first_refusal m nodes (listed 512 t) (listed 64 b) (room 64 b) k r
+
+  -- a booking that is refused leaves the book as it was
+  unbooked : (n : ℕ) → (n ≡ 0 → ⊥) → book_told_by m nodes t b k r (length labels) ≡ (n, []) → b ≡ book_left m nodes t b k r (length labels)
+  unbooked n some is = sym (cond-false _ _ _ (ne_eqb (book_told_by m nodes t b k r (length labels)).0 0 (λ z. some (sym (ap (λ x. x.0) is) ∙ z))))
+
+  pub books_refused : (f : NetFault) → (net_fault_number f, []) ≡ unless refusal [] → Books m nodes t b k r labels (Err f) b labels
   books_refused f e =
       let is = refused_by _ _ f e in
-      let no = ne_eqb (book_refusal nodes places (numbers_of standing) r) 0 (λ z. fault_some f (sym is ∙ z)) in
-      let answer_is : booking_told m nodes links standing places k r (length labels) ≡ (net_fault_number f, []) = cond-false _ _ _ no ∙ ap (λ n. (n, [])) is in
-      let answer-no = ne_eqb (booking_told m nodes links standing places k r (length labels)).0 0 (λ z. fault_some f (ap (λ x. x.0) (sym answer_is) ∙ z)) in
-      record {
-        answer_is = sym answer_is;
-        streams_are = sym (cond-false _ _ _ answer-no);
-        labels_are = sym (cond-false _ _ _ no);
-        one_more = λ z. absurd (fault_some f (ap (λ x. x.0) (sym answer_is) ∙ z));
-      }
+      let no = ne_eqb refusal 0 (λ z. fault_some f (sym is ∙ z)) in
+      let answer_is : book_told_by m nodes t b k r (length labels) ≡ (net_fault_number f, []) = cond-false _ _ _ no ∙ ap (λ n. (n, [])) is in
+      record { answer_is = sym answer_is; left_is = unbooked (net_fault_number f) (fault_some f) answer_is; labels_are = sym (cond-false _ _ _ no) }
 
-  module _ (asked-zero : book_refusal nodes places (numbers_of standing) r ≡ 0) where
-    told_is : booking_told m nodes links standing places k r (length labels) ≡ search_told m (booking m nodes links standing places k r) (length labels)
+  module _ (asked-zero : refusal ≡ 0) where
+    told_is : book_told_by m nodes t b k r (length labels) ≡ search_told m asks (length labels)
     told_is = cond-true _ _ _ (eq-eqb _ _ asked-zero)
 
-    pub books_unfound : (f : SearchFault) (labels' : List (Label S)) → (fault_number f, []) ≡ answer m (booking m nodes links standing places k r) (length labels) → labels' ≡ stored (made m (booking m nodes links standing places k r)) labels → Books m nodes links standing places k r streams labels (Err (Search f)) streams labels'
+    labels_searched : (labels' : List (Label S)) → labels' ≡ stored (made m asks) labels → labels' ≡ labels_left m nodes t b k r labels
+    labels_searched labels' is = is ∙ sym (cond-true _ _ _ (eq-eqb _ _ asked-zero))
+
+    pub books_unfound : (f : SearchFault) (labels' : List (Label S)) → (fault_number f, []) ≡ answer m asks (length labels) → labels' ≡ stored (made m asks) labels → Books m nodes t b k r labels (Err (Search f)) b labels'
     books_unfound f labels' e stored_is =
-        let answer_is = told_is ∙ search_told_err m (booking m nodes links standing places k r) (length labels) f e in
-        let answer-no = ne_eqb (booking_told m nodes links standing places k r (length labels)).0 0 (λ z. fault_some (Search f) (ap (λ x. x.0) (sym answer_is) ∙ z)) in
-        record {
-          answer_is = sym answer_is;
-          streams_are = sym (cond-false _ _ _ answer-no);
-          labels_are = stored_is ∙ sym (cond-true _ _ _ (eq-eqb _ _ asked-zero));
-          one_more = λ z. absurd (fault_some (Search f) (ap (λ x. x.0) (sym answer_is) ∙ z));
-        }
+        let answer_is = told_is ∙ search_told_err m asks (length labels) f e in
+        record { answer_is = sym answer_is; left_is = unbooked (fault_number f) (fault_some (Search f)) answer_is; labels_are = labels_searched labels' stored_is }
 
-    pub books_found : (f : Found) (labels' : List (Label S)) (count : ℕ) → length standing ≡ count → count < length streams → standing ≡ take count streams → (0, f.label ∷ f.figure ∷ f.hops ∷ f.count ∷ []) ≡ answer m (booking m nodes links standing places k r) (length labels) → labels' ≡ stored (made m (booking m nodes links standing places k r)) labels → Books m nodes links standing places k r streams labels (Ok (f.figure, f.hops, f.count)) (set streams count (recorded_as r f.figure f.hops (written (route_of labels' f.label)))) labels'
-    books_found f labels' count long inside standing-is e stored_is =
-        let query = booking m nodes links standing places k r in
-        let answer_is = told_is ∙ search_told_ok m query (length labels) f e in
-        let answer-yes = eq-eqb (booking_told m nodes links standing places k r (length labels)).0 0 (ap (λ x. x.0) answer_is) in
-        let a = answered m query (length labels) f e in
-        let b = a.label in
-        let cheapest = best_cheapest m laws query b a.is_best in
-        let let_through = passed nodes places (numbers_of standing) r asked-zero in
-        let hops_fit : length (route_of (made m query) b.label) ≤ 16 = omega (arith, cheapest.route.short, let_through.hops) in
-        let route-is : route_of labels' f.label ≡ route_of (made m query) b.label = ap₂ route_of stored_is (sym a.label_is) ∙ stored-route m laws query labels b.label a.fits (best_inside m laws query b a.is_best) in
-        let record_is : recorded_as r f.figure f.hops (written (route_of labels' f.label)) ≡ recorded_as r b.figure b.hops (sixteen (route_of (made m query) b.label)) =
+    pub books_found : (f : Found) (labels' : List (Label S)) (b' : Table Stream) → (0, f.label ∷ f.figure ∷ f.hops ∷ f.count ∷ []) ≡ answer m asks (length labels) → labels' ≡ stored (made m asks) labels → b.count ≤ room 64 b → b' ≡ pushed 64 (recorded_as r f.figure f.hops (written (route_of labels' f.label))) b → Books m nodes t b k r labels (Ok (f.figure, f.hops, f.count)) b' labels'
+    books_found f labels' b' e stored_is within pushed_is =
+        let answer_is = told_is ∙ search_told_ok m asks (length labels) f e in
+        let a = answered m asks (length labels) f e in
+        let x = a.label in
+        let cheapest = best_cheapest m laws asks x a.is_best in
+        let let_through = passed nodes (room 64 b) (numbers_of (listed 64 b)) r asked-zero in
+        let hops_fit : length (route_of (made m asks) x.label) ≤ 16 = omega (arith, cheapest.route.short, let_through.hops) in
+        let route-is : route_of labels' f.label ≡ route_of (made m asks) x.label = ap₂ route_of stored_is (sym a.label_is) ∙ stored-route m laws asks labels x.label a.fits (best_inside m laws asks x a.is_best) in
+        let record_is : recorded_as r f.figure f.hops (written (route_of labels' f.label)) ≡ recorded_as r x.figure x.hops (sixteen (route_of (made m asks) x.label)) =
         ap₂ (λ x y. recorded_as r x y (written (route_of labels' f.label))) (sym a.figure_is) (sym a.hops_is)
-        ∙ ap (recorded_as r b.figure b.hops) (ap written route-is ∙ written_is _ hops_fit) in
-        let entered-is : entered m nodes links standing places k r ≡ standing ++ recorded_as r f.figure f.hops (written (route_of labels' f.label)) ∷ [] =
-        ap (λ o. standing ++ recorded m nodes links standing places k r o) a.is_best ∙ ap (λ s. standing ++ s ∷ []) (sym record_is) in
+        ∙ ap (recorded_as r x.figure x.hops) (ap written route-is ∙ written_is _ hops_fit) in
+        let entered-is : listed 64 b ++ recorded_as r f.figure f.hops (written (route_of labels' f.label)) ∷ [] ≡ entered m nodes (listed 512 t) (listed 64 b) (room 64 b) k r =
+        ap (λ s. listed 64 b ++ s ∷ []) record_is
+        ∙ sym (ap (λ o. listed 64 b ++ recorded m nodes (listed 512 t) (listed 64 b) (room 64 b) k r o) a.is_best) in
+        let free : b.count < room 64 b = omega (arith, let_through.room, length-map (listed 64 b) (λ s. s.number), length_within b 64 within) in
         record {
           answer_is = sym answer_is;
-          streams_are =
-              (stores_one streams count (recorded_as r f.figure f.hops (written (route_of labels' f.label))) inside).places
-              ∙ ap (λ ss. stored (ss ++ recorded_as r f.figure f.hops (written (route_of labels' f.label)) ∷ []) streams) (sym standing-is)
-              ∙ ap (λ ss. stored ss streams) (sym entered-is)
-              ∙ sym (cond-true _ _ _ answer-yes);
-          labels_are = stored_is ∙ sym (cond-true _ _ _ (eq-eqb _ _ asked-zero));
-          one_more = λ _. (ap length entered-is ∙ length_push standing _, omega (arith, let_through.room, length-map standing (λ s. s.number)));
+          left_is =
+              pushed_is
+              ∙ cond-true _ _ _ (lt-ltb _ _ free)
+              ∙ ap (λ ss. put ss b) entered-is
+              ∙ sym (cond-true _ _ _ (eq-eqb (book_told_by m nodes t b k r (length labels)).0 0 (ap (λ x. x.0) answer_is)));
+          labels_are = labels_searched labels' stored_is;
         }
-
--- the same, for the tables of a net and a book
-module _ {K S U : Type 0} (m : Model K S U) (nodes : ℕ) (t : Table (Link U)) (b : Table Stream) (k : K) (r : Request) (labels : List (Label S)) (count standing : ℕ) (count-is : count ≡ min t.count (room 512 t)) (standing-is : standing ≡ min b.count (room 64 b)) (answer : Result (ℕ × ℕ × ℕ) NetFault) (streams' : List Stream) (labels' : List (Label S)) (books : Books m nodes (take count t.places) (take standing b.places) (room 64 b) k r b.places labels answer streams' labels') where
-  pub books_listed : Books m nodes (listed 512 t) (listed 64 b) (room 64 b) k r b.places labels answer streams' labels'
-  books_listed =
-      subst₂ (λ i j. Books m nodes (take i t.places) (take j b.places) (room 64 b) k r b.places labels answer streams' labels') count-is standing-is books
-
-  pub left_refused : (f : NetFault) → answer ≡ Err f → table b.count streams' ≡ book_left m nodes t b k r (length labels)
-  left_refused f is =
-      let h = books_listed in
-      let told_is : (book_told_by m nodes t b k r (length labels)).0 ≡ net_fault_number f = sym (ap (λ x. x.0) (sym (ap (told (λ v. v.0 ∷ v.1 ∷ v.2 ∷ [])) is) ∙ h.answer_is)) in
-      let no = ne_eqb (book_told_by m nodes t b k r (length labels)).0 0 (λ z. fault_some f (sym told_is ∙ z)) in
-      ap (table b.count) (h.streams_are ∙ cond-false _ _ _ no) ∙ sym (cond-false _ _ _ no)
-
-  pub left_booked : (v : ℕ × ℕ × ℕ) → answer ≡ Ok v → table (standing + 1) streams' ≡ book_left m nodes t b k r (length labels)
-  left_booked v is =
-      let h = books_listed in
-      let told_is : (book_told_by m nodes t b k r (length labels)).0 ≡ 0 = sym (ap (λ x. x.0) (sym (ap (told (λ v. v.0 ∷ v.1 ∷ v.2 ∷ [])) is) ∙ h.answer_is)) in
-      let yes' = eq-eqb (book_told_by m nodes t b k r (length labels)).0 0 told_is in
-      let (one, room-left) = h.one_more told_is in
-      ap₂ table (omega (arith, length-listed b 64)) (h.streams_are ∙ cond-true _ _ _ yes') ∙ sym (cond-true _ _ _ yes')

@@ -1,7 +1,7 @@
 -- The flags of the links that have room. Assumes nothing.
 use Rattle.std.proofs.Common.{◌≡◌, ℕ, zero, suc, ◌+◌, ◌-◌, ◌<◌, ◌≤◌, Bool, List, [], ◌∷◌, length, get_or, take, drop, refl, ap, ◌∙◌, arith}
 use Rattle.std.proofs.lemmas.List.{take_at}
-use Rattle.search.specs.Rule.{stored}
+use Rattle.slice_vec.specs.Tables.{stored}
 use Rattle.search.specs.declared.label.Link.{Link}
 use Rattle.search.proofs.Storing.{stored_fits}
 use Rattle.net.specs.Tables.{is_open_to, flags_from, flags_for}

@@ -4,14 +4,14 @@ use Rattle.std.specs.List.{AllByRecursion}
 use Rattle.std.proofs.lemmas.List.{take_at}
 use Rattle.std.proofs.lemmas.Bool.{cases_Bool, cond-true, cond-false, cond_both, lt-ltb, le-ltb, ltb-true, ltb-false}
 use Rattle.kinds.specs.Kinds.{Model, Laws}
-use Rattle.search.specs.Rule.{stored}
+use Rattle.slice_vec.specs.Tables.{stored, Table, listed}
 use Rattle.search.specs.declared.label.Link.{Link}
 use Rattle.search.proofs.Storing.{stored_fits}
 use Rattle.net.specs.Calls.{bearing, show_told, show_told_of, show_list, show_list_of, shown, show_within}
 use Rattle.net.specs.Ledger.{Entry, Ledger, Site, number, numbers, record_of, answer, next, after, show_values}
 use Rattle.net.specs.Matching.{Matches, Follows, Shows}
 use Rattle.net.specs.Questions.{Told, unless, stream_refusal}
-use Rattle.net.specs.Tables.{Table, listed, place_of, route}
+use Rattle.net.specs.Tables.{place_of, route}
 use Rattle.net.specs.declared.types.Call.{Call}
 use Rattle.net.specs.declared.types.Call.TheVariants.{Show}
 use Rattle.net.specs.declared.types.Stream.{Stream}

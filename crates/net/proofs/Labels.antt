@@ -3,7 +3,8 @@ use Rattle.std.proofs.Common.{◌≡◌, ℕ, min, Bool, true, false, cond, eqb,
 use Rattle.std.proofs.lemmas.List.{take_all, drop_all}
 use Rattle.std.proofs.lemmas.Bool.{cases_lt, cond-true, cond-false}
 use Rattle.kinds.specs.Kinds.{Model, Laws}
-use Rattle.search.specs.Rule.{made, stored}
+use Rattle.search.specs.Rule.{made}
+use Rattle.slice_vec.specs.Tables.{stored, Table}
 use Rattle.search.specs.declared.label.Label.{Label}
 use Rattle.search.specs.declared.label.Link.{Link}
 use Rattle.net.specs.Calls.{labels_left}
@@ -11,7 +12,6 @@ use Rattle.net.specs.Labels.{stored_within, labels_next, labels_after}
 use Rattle.net.specs.Ledger.{Ledger, Site, numbers, asks, next, after}
 use Rattle.net.specs.Matching.{Matches}
 use Rattle.net.specs.Questions.{node_count, book_refusal}
-use Rattle.net.specs.Tables.{Table}
 use Rattle.net.specs.declared.types.Call.{Call}
 use Rattle.net.specs.declared.types.Call.TheVariants.{Add, Withdraw, Open, Book, Release, Show, Load, Close}
 use Rattle.net.specs.declared.types.Request.{Request}

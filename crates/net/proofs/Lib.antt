@@ -5,10 +5,11 @@ pub mod Following
 pub mod Labels
 pub mod Matching
 pub mod Ran
+pub mod Replies
 pub mod Runs
 pub mod Scans
-pub mod Shifts
 pub mod Standing
+pub mod Steps
 pub mod Tabled
 pub mod Taken
 pub mod Written

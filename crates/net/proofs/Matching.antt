@@ -16,15 +16,16 @@ use Rattle.net.specs.Calls.{numbers_of, add_told, add_left, withdraw_told, withd
 use Rattle.net.specs.Ledger.{Ledger, Site, numbers, booked_over, record_of, begun, asks, answer, entered, changed, next, after}
 use Rattle.net.specs.Matching.{Matches}
 use Rattle.net.specs.Questions.{Told, unless, node_count, add_refusal, link_refusal, book_refusal, stream_refusal, query, search_told}
-use Rattle.net.specs.Tables.{Table, room, listed, put, place_of, load, sixteen}
+use Rattle.net.specs.Tables.{place_of, load, sixteen}
+use Rattle.slice_vec.specs.Tables.{Table, room, listed, put}
 use Rattle.net.specs.declared.types.Call.{Call}
 use Rattle.net.specs.declared.types.Call.TheVariants.{Add, Withdraw, Open, Book, Release, Show, Load, Close}
 use Rattle.net.specs.declared.types.Request.{Request}
 use Rattle.net.specs.declared.types.Stream.{Stream}
 use Rattle.net.proofs.Booking.{none_of, is_false, passed}
-use Rattle.net.proofs.Shifts.{length_removed}
+use Rattle.slice_vec.proofs.Tables.{length-listed, length_removed}
 use Rattle.net.proofs.Standing.{Measured, load_same}
-use Rattle.net.proofs.Tabled.{length-listed, stream_there}
+use Rattle.net.proofs.Tabled.{stream_there}
 
 module _ {X : Type 0} (cap : ℕ) (xs : List X) (t : Table X) (fits : length xs ≤ room cap t) where
   length-put : length (put xs t).places ≡ length t.places

@@ -5,10 +5,9 @@ use Rattle.kinds.specs.Kinds.{Model}
 use Rattle.search.specs.declared.label.Link.{Link}
 use Rattle.net.specs.Ledger.{Ledger, Site, answer, next, after, answers, begun}
 use Rattle.net.specs.Matching.{Matches, Follows}
-use Rattle.net.specs.Performed.{told_of, is_serving, nodes_of, links_of, Sofar, Ran}
+use Rattle.net.specs.Performed.{Reply, told_of, is_serving, nodes_of, links_of, Sofar, Ran}
 use Rattle.net.specs.Questions.{Told, node_count}
-use Rattle.net.specs.Tables.{Table, table, listed}
-use Rattle.net.specs.declared.types.Answer.{Answer}
+use Rattle.slice_vec.specs.Tables.{Table, table, listed}
 use Rattle.net.specs.declared.types.Call.{Call}
 use Rattle.net.specs.declared.types.Net.{Net}
 use Rattle.net.specs.declared.types.Stream.{Stream}
@@ -21,7 +20,7 @@ module _ {K S U : Type 0} (m : Model K S U) (site : Site) where
   pub ran_none : (n : Net K S U) (b : Table Stream) → Matches {K = K} site begun (is_serving n) (nodes_of n) (links_of n) b → Sofar m site [] n b []
   ran_none n b h = record { matches = h; answered = refl }
 
-  pub ran_more : (calls more : List (Call K U)) (c : Call K U) → more ≡ calls ++ c ∷ [] → (n : Net K S U) (b : Table Stream) (list : List Answer) → Sofar m site calls n b list → (n' : Net K S U) (b' : Table Stream) (a : Answer) (list' : List Answer) → list' ≡ list ++ a ∷ [] → Follows m site calls c (told_of a) (is_serving n') (nodes_of n') (links_of n') b' → Sofar m site more n' b' list'
+  pub ran_more : (calls more : List (Call K U)) (c : Call K U) → more ≡ calls ++ c ∷ [] → (n : Net K S U) (b : Table Stream) (list : List Reply) → Sofar m site calls n b list → (n' : Net K S U) (b' : Table Stream) (a : Reply) (list' : List Reply) → list' ≡ list ++ a ∷ [] → Follows m site calls c (told_of a) (is_serving n') (nodes_of n') (links_of n') b' → Sofar m site more n' b' list'
   ran_more calls more c is-more n b list h n' b' a list' is f =
       record {
         matches = subst (λ cs. Matches site (after m site cs) (is_serving n') (nodes_of n') (links_of n') b') (sym is-more) f.1;
@@ -33,7 +32,7 @@ module _ {K S U : Type 0} (m : Model K S U) (site : Site) where
             ∙ ap (answers m site begun) (sym is-more);
       }
 
-  pub ran_as : (calls : List (Call K U)) (n : Net K S U) (b : Table Stream) (list : List Answer) → Sofar m site calls n b list → (serving : Bool) (t : Table (Link U)) (b' : Table Stream) (list' : List Answer) → serving ≡ is_serving n → t ≡ links_of n → b' ≡ b → list' ≡ list → Ran m site calls serving t b' list'
+  pub ran_as : (calls : List (Call K U)) (n : Net K S U) (b : Table Stream) (list : List Reply) → Sofar m site calls n b list → (serving : Bool) (t : Table (Link U)) (b' : Table Stream) (list' : List Reply) → serving ≡ is_serving n → t ≡ links_of n → b' ≡ b → list' ≡ list → Ran m site calls serving t b' list'
   ran_as calls n b list h serving t b' list' is-serving-now is-t is_b is-list = record {
     serving_is = is-serving-now ∙ sym h.matches.serving_is;
     links_are = ap (listed 512) is-t ∙ h.matches.links_are;

@@ -6,7 +6,7 @@ use Rattle.search.specs.declared.label.Link.{Link}
 use Rattle.net.specs.Ledger.{Ledger, Site, answer, next, after}
 use Rattle.net.specs.Matching.{Matches, Follows}
 use Rattle.net.specs.Questions.{Told}
-use Rattle.net.specs.Tables.{Table}
+use Rattle.slice_vec.specs.Tables.{Table}
 use Rattle.net.specs.declared.types.Call.{Call}
 use Rattle.net.specs.declared.types.Call.TheVariants.{Add, Withdraw, Open, Book, Release, Show, Load, Close}
 use Rattle.net.specs.declared.types.Request.{Request}

@@ -1,15 +1,16 @@
 -- What each call answers and leaves, over any tables. Assumes nothing.
-use Rattle.std.specs.Prelude.{◌≡◌, ℕ, ◌+◌, ◌<◌, cond, List, [], ◌∷◌, ◌++◌, map, length, take, drop, replicate, Some, None, Option, Result, ◌==◌, nat_le, nat_lt, slice_index}
+use Rattle.std.specs.Prelude.{◌≡◌, ℕ, ◌+◌, cond, List, [], ◌∷◌, ◌++◌, map, length, take, drop, replicate, Some, None, Option, Result, ◌==◌, nat_le, nat_lt, slice_index}
 use Rattle.std.specs.List.{remove}
 use Rattle.kinds.specs.Kinds.{Model}
 use Rattle.search.specs.Answers.{best}
 use Rattle.search.specs.Routes.{route_of}
-use Rattle.search.specs.Rule.{Query, made, stored}
+use Rattle.search.specs.Rule.{Query, made}
+use Rattle.slice_vec.specs.Tables.{stored, Table, room, listed, put}
 use Rattle.search.specs.declared.answer.Best.{Best}
 use Rattle.search.specs.declared.label.Label.{Label}
 use Rattle.search.specs.declared.label.Link.{Link}
-use Rattle.net.specs.Questions.{Told, told, unless, add_refusal, link_refusal, book_refusal, stream_refusal, query, search_told}
-use Rattle.net.specs.Tables.{Table, room, listed, put, place_of, route, load, sixteen}
+use Rattle.net.specs.Questions.{Told, told, three_values, unless, add_refusal, link_refusal, book_refusal, stream_refusal, query, search_told}
+use Rattle.net.specs.Tables.{place_of, route, load, sixteen}
 use Rattle.net.specs.declared.types.NetFault.{NetFault}
 use Rattle.net.specs.declared.types.Request.{Request}
 use Rattle.net.specs.declared.types.Stream.{Stream}
@@ -104,15 +105,6 @@ module _ {K S U : Type 0} (m : Model K S U) (nodes : ℕ) (links : List (Link U)
   abbrev pub entered : List Stream
   entered = standing ++ recorded (best m k r.target (made m booking))
 
-  -- what a booking answers, and leaves in the stream table and the label table
-  pub record Books (streams : List Stream) (labels : List (Label S)) (answer : Result (ℕ × ℕ × ℕ) NetFault) (streams' : List Stream) (labels' : List (Label S)) : Type 0 where
-    pub answer_is : told (λ v. v.0 ∷ v.1 ∷ v.2 ∷ []) answer ≡ booking_told (length labels)
-    pub streams_are : streams' ≡ cond ((booking_told (length labels)).0 == 0) (stored entered streams) streams
-    -- under a refusal before the search the label table is untouched
-    pub labels_are : labels' ≡ cond (first_refusal == 0) (stored (made m booking) labels) labels
-    -- one stream more, in a place that was free
-    pub one_more : (booking_told (length labels)).0 ≡ 0 → (length entered ≡ length standing + 1) × (length standing < places)
-
 module _ {K S U : Type 0} (m : Model K S U) (nodes : ℕ) (t : Table (Link U)) (b : Table Stream) (k : K) (r : Request) where
   abbrev pub book_told_by : ℕ → Told
   book_told_by label_places = booking_told m nodes (listed 512 t) (listed 64 b) (room 64 b) k r label_places
@@ -122,3 +114,10 @@ module _ {K S U : Type 0} (m : Model K S U) (nodes : ℕ) (t : Table (Link U)) (
 
   abbrev pub labels_left : List (Label S) → List (Label S)
   labels_left labels = cond (first_refusal m nodes (listed 512 t) (listed 64 b) (room 64 b) k r == 0) (stored (made m (booking m nodes (listed 512 t) (listed 64 b) (room 64 b) k r)) labels) labels
+
+  -- what a booking answers, and leaves in the book and in the label table
+  pub record Books (labels : List (Label S)) (answer : Result (ℕ × ℕ × ℕ) NetFault) (b' : Table Stream) (labels' : List (Label S)) : Type 0 where
+    pub answer_is : told three_values answer ≡ book_told_by (length labels)
+    pub left_is : b' ≡ book_left (length labels)
+    -- under a refusal before the search the label table is untouched
+    pub labels_are : labels' ≡ labels_left labels

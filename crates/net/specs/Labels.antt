@@ -1,17 +1,15 @@
 -- What the label table holds after a list of calls. Assumes nothing.
-use Rattle.std.specs.Prelude.{◌≡◌, ℕ, min, Bool, cond, List, [], ◌∷◌, ◌++◌, take, drop, ◌==◌}
+use Rattle.std.specs.Prelude.{◌≡◌, ℕ, min, cond, List, [], ◌∷◌, ◌++◌, take, drop, ◌==◌}
 use Rattle.kinds.specs.Kinds.{Model}
-use Rattle.search.specs.Rule.{made, stored}
+use Rattle.search.specs.Rule.{made}
+use Rattle.slice_vec.specs.Tables.{stored}
 use Rattle.search.specs.declared.label.Label.{Label}
-use Rattle.search.specs.declared.label.Link.{Link}
 use Rattle.net.specs.Ledger.{Ledger, Site, numbers, asks, next, after}
-use Rattle.net.specs.Matching.{Matches}
+use Rattle.net.specs.Matching.{Matches, State}
 use Rattle.net.specs.Questions.{node_count, book_refusal}
-use Rattle.net.specs.Tables.{Table}
 use Rattle.net.specs.declared.types.Call.{Call}
 use Rattle.net.specs.declared.types.Call.TheVariants.{Add, Withdraw, Open, Book, Release, Show, Load, Close}
 use Rattle.net.specs.declared.types.Request.{Request}
-use Rattle.net.specs.declared.types.Stream.{Stream}
 
 -- ls stored in the first so many places of a table, the other places as they were
 abbrev pub stored_within : {X : Type 0} → ℕ → List X → List X → List X
@@ -42,6 +40,6 @@ module _ {K S U : Type 0} (m : Model K S U) (site : Site) where
 
 -- for every list of calls: if net and book were those of the ledger after the list, then this call leaves in the label
 -- table what it leaves after the list
-abbrev pub LabelsFollow : {K S U : Type 0} → Model K S U → Call K U → Bool → ℕ → Table (Link U) → Table Stream → List (Label S) → List (Label S) → Type 0
-LabelsFollow {K} {S} {U} m c serving nodes t b labels labels' =
-    (site : Site) (calls : List (Call K U)) → Matches site (after m site calls) serving nodes t b → labels' ≡ labels_next m site (after m site calls) c labels
+abbrev pub LabelsFollow : {K S U : Type 0} → Model K S U → Call K U → State U → List (Label S) → List (Label S) → Type 0
+LabelsFollow {K} {S} {U} m c x labels labels' =
+    (site : Site) (calls : List (Call K U)) → Matches site (after m site calls) x.serving x.nodes x.links x.streams → labels' ≡ labels_next m site (after m site calls) c labels

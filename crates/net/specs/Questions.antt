@@ -37,6 +37,16 @@ abbrev pub told : {X : Type 0} → (X → List ℕ) → Result X NetFault → To
 told values (Ok x) = (0, values x)
 told values (Err f) = (net_fault_number f, [])
 
+-- the values of an answer that has none, one, or three
+abbrev pub no_values : {X : Type 0} → X → List ℕ
+no_values x = []
+
+abbrev pub one_value : ℕ → List ℕ
+one_value n = n ∷ []
+
+abbrev pub three_values : ℕ × ℕ × ℕ → List ℕ
+three_values v = v.0 ∷ v.1 ∷ v.2 ∷ []
+
 -- 0 and the values, unless a question was answered no
 abbrev pub unless : ℕ → List ℕ → Told
 unless refusal values = cond (refusal == 0) (0, values) (refusal, [])
@@ -47,6 +57,10 @@ node_count n = cond (nat_le 2 n && nat_le n 128) n 0
 
 abbrev pub check_refusal : ℕ → ℕ
 check_refusal nodes = cond (nat_le 2 nodes && nat_le nodes 128) 0 1
+
+-- the questions on the ends of a link
+abbrev pub ends_refusal : {U : Type 0} → ℕ → Link U → ℕ
+ends_refusal nodes l = cond (nat_le nodes l.tail) 3 (cond (nat_le nodes l.head) 4 (cond (l.tail == l.head) 5 0))
 
 abbrev pub add_refusal : {U : Type 0} → (nodes places count : ℕ) → Link U → ℕ
 add_refusal nodes places count l =

@@ -1,28 +1,7 @@
--- Lists in lent tables, and the streams of a book. Assumes nothing.
-use Rattle.std.specs.Prelude.{ℕ, suc, ◌+◌, min, Bool, false, cond, ◌||◌, List, [], ◌∷◌, ◌++◌, length, take, replicate, sum_by, ◌==◌, nat_le}
-use Rattle.search.specs.Rule.{stored}
+-- The streams of a book, and the links open to a booking. Assumes nothing.
+use Rattle.std.specs.Prelude.{ℕ, suc, ◌+◌, min, Bool, false, cond, ◌||◌, List, [], ◌∷◌, ◌++◌, take, replicate, sum_by, ◌==◌, nat_le}
 use Rattle.search.specs.declared.label.Link.{Link}
 use Rattle.net.specs.declared.types.Stream.{Stream}
-
--- a lent table, and how many of its places are in use
-pub record Table (X : Type 0) : Type 0 where
-  pub count : ℕ
-  pub places : List X
-
-abbrev pub table : {X : Type 0} → ℕ → List X → Table X
-table count places = record { count = count; places = places }
-
--- how many places may be used, at most cap
-abbrev pub room : {X : Type 0} → ℕ → Table X → ℕ
-room cap t = min cap (length t.places)
-
--- what lies in the places in use
-abbrev pub listed : {X : Type 0} → ℕ → Table X → List X
-listed cap t = take (min t.count (room cap t)) t.places
-
--- the table when xs lie in it from its start, the other places as they were
-abbrev pub put : {X : Type 0} → List X → Table X → Table X
-put xs t = record { count = length xs; places = stored xs t.places }
 
 -- i stands in the list
 abbrev pub has : ℕ → List ℕ → Bool

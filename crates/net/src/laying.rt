@@ -1,18 +1,16 @@
 // The calls of a net being laid.
-ghost use Rattle.std.specs.Prelude.{◌≡◌, true, false, List, [], ◌∷◌};
-ghost use Rattle.net.specs.Questions.{net_fault_number, told, unless, node_count, check_refusal};
+ghost use Rattle.std.specs.Prelude.{◌≡◌, []};
+ghost use Rattle.slice_vec.specs.Tables.{Table, table};
+ghost use Rattle.net.specs.Questions.{net_fault_number, told, no_values, one_value, unless, node_count, check_refusal, ends_refusal};
 ghost use Rattle.net.specs.Calls.{add_told, add_left, withdraw_told, withdraw_left};
-ghost use Rattle.net.specs.Ledger.{Site, after};
-ghost use Rattle.net.specs.Matching.{Matches, Follows};
-ghost use Rattle.net.specs.Tables.{Table, table};
-ghost use Rattle.net.specs.declared.types.Call.{Call};
+ghost use Rattle.net.specs.Matching.{laid, served, Steps};
 ghost use Rattle.net.specs.declared.types.Call.TheVariants.{Add, Withdraw, Open};
 ghost use Rattle.net.specs.declared.types.Stream.{Stream};
 
-use crate::table::{in_use, take_out};
 use crate::types::{Laying, NetFault, Service};
 use kinds::Kind;
 use search::Link;
+use slice_vec::SliceVec;
 
 impl NetFault {
     pub fn number(&self) -> u16
@@ -40,22 +38,37 @@ impl NetFault {
     }
 }
 
+// Puts the questions on a link's ends.
+fn check_ends<U: Copy>(nodes: u16, link: &Link<U>) -> Result<(), NetFault>
+    ensures { told no_values result ≡ unless (ends_refusal nodes link.now) [] }
+{
+    if link.tail >= nodes {
+        return Err(NetFault::Tail);
+    }
+    if link.head >= nodes {
+        return Err(NetFault::Head);
+    }
+    if link.tail == link.head {
+        return Err(NetFault::LinkEnds);
+    }
+    Ok(())
+}
+
 impl<'a, K: Kind> Laying<'a, K> {
     // A net without links over a lent table; a node count outside 2 to 128 makes a net of no nodes.
     pub fn new(nodes: u16, links: &'a mut [Link<K::Use>]) -> Laying<'a, K>
         ensures nodes { result.nodes ≡ node_count nodes }
-        ensures table { table result.count result.links.now ≡ table 0 links.old }
+        ensures table { result.links ≡ table 0 links.old }
     {
         let nodes = if nodes >= 2 && nodes <= 128 { nodes } else { 0 };
         Laying {
             nodes,
-            count: 0,
-            links,
+            links: SliceVec::new(links),
         }
     }
 
     pub fn check(&self) -> Result<(), NetFault>
-        ensures { told (λ _. []) result ≡ unless (check_refusal self.now.nodes) [] }
+        ensures { told no_values result ≡ unless (check_refusal self.now.nodes) [] }
     {
         if self.nodes < 2 || self.nodes > 128 {
             return Err(NetFault::NodeCount);
@@ -65,83 +78,35 @@ impl<'a, K: Kind> Laying<'a, K> {
 
     // Adds a link and gives its number.
     pub fn add(&mut self, link: Link<K::Use>) -> Result<u16, NetFault>
-        ensures answer { told (λ n. n ∷ []) result ≡ add_told self.old.nodes (table self.old.count self.old.links.now) link }
-        ensures left { table self.new.count self.new.links.now ≡ add_left self.old.nodes (table self.old.count self.old.links.now) link }
+        ensures answer { told one_value result ≡ add_told self.old.nodes self.old.links link }
+        ensures left { self.new.links ≡ add_left self.old.nodes self.old.links link }
         ensures nodes { self.new.nodes ≡ self.old.nodes }
-        ensures ledger { (site : Site) (calls : List (Call K K.Use)) (b : Table Stream) → Matches site (after K.Kind.model site calls) false self.old.nodes (table self.old.count self.old.links.now) b → Follows K.Kind.model site calls (Add link) (told (λ n. n ∷ []) result) false self.new.nodes (table self.new.count self.new.links.now) b }
+        ensures ledger { (b : Table Stream) → Steps K.Kind.model (Add link) (told one_value result) (laid self.old.nodes self.old.links b) (laid self.new.nodes self.new.links b) }
     {
-        self.place(link)
+        check_ends(self.nodes, &link)?;
+        let number = self.links.push(link).ok_or(NetFault::LinksFull)?;
+        Ok(number as u16)
     }
 
     // Takes a link out; each later one moves down a place.
     pub fn withdraw(&mut self, link: u16) -> Result<(), NetFault>
-        ensures answer { told (λ _. []) result ≡ withdraw_told (table self.old.count self.old.links.now) link }
-        ensures left { table self.new.count self.new.links.now ≡ withdraw_left (table self.old.count self.old.links.now) link }
+        ensures answer { told no_values result ≡ withdraw_told self.old.links link }
+        ensures left { self.new.links ≡ withdraw_left self.old.links link }
         ensures nodes { self.new.nodes ≡ self.old.nodes }
-        ensures ledger { (site : Site) (calls : List (Call K K.Use)) (b : Table Stream) → Matches site (after K.Kind.model site calls) false self.old.nodes (table self.old.count self.old.links.now) b → Follows K.Kind.model site calls (Withdraw link) (told (λ _. []) result) false self.new.nodes (table self.new.count self.new.links.now) b }
+        ensures ledger { (b : Table Stream) → Steps K.Kind.model (Withdraw link) (told no_values result) (laid self.old.nodes self.old.links b) (laid self.new.nodes self.new.links b) }
     {
-        self.remove(link)
+        self.links
+            .pop_at(usize::from(link))
+            .ok_or(NetFault::NoLink)?;
+        Ok(())
     }
 
     pub fn open(self) -> Service<'a, K>
         ensures nodes { result.nodes ≡ self.entry.nodes }
-        ensures table { table result.count result.links.now ≡ table self.entry.count self.entry.links.now }
-        ensures ledger { (site : Site) (calls : List (Call K K.Use)) (b : Table Stream) → Matches site (after K.Kind.model site calls) false self.entry.nodes (table self.entry.count self.entry.links.now) b → Follows K.Kind.model site calls Open (0, []) true result.nodes (table result.count result.links.now) b }
+        ensures table { result.links ≡ self.entry.links }
+        ensures ledger { (b : Table Stream) → Steps K.Kind.model Open (0, []) (laid self.entry.nodes self.entry.links b) (served result.nodes result.links b) }
     {
-        self.into_service()
-    }
-
-    fn into_service(self) -> Service<'a, K>
-        ensures nodes { result.nodes ≡ self.entry.nodes }
-        ensures table { table result.count result.links.now ≡ table self.entry.count self.entry.links.now }
-    {
-        let Laying {
-            nodes,
-            count,
-            links,
-        } = self;
-        Service {
-            nodes,
-            count,
-            links,
-        }
-    }
-
-    fn place(&mut self, link: Link<K::Use>) -> Result<u16, NetFault>
-        ensures answer { told (λ n. n ∷ []) result ≡ add_told self.old.nodes (table self.old.count self.old.links.now) link }
-        ensures left { table self.new.count self.new.links.now ≡ add_left self.old.nodes (table self.old.count self.old.links.now) link }
-        ensures nodes { self.new.nodes ≡ self.old.nodes }
-    {
-        let count = in_use(512, self.count, self.links.len());
-        if link.tail >= self.nodes {
-            return Err(NetFault::Tail);
-        }
-        if link.head >= self.nodes {
-            return Err(NetFault::Head);
-        }
-        if link.tail == link.head {
-            return Err(NetFault::LinkEnds);
-        }
-        if count >= 512 || count >= self.links.len() {
-            return Err(NetFault::LinksFull);
-        }
-        self.links[count] = link;
-        self.count = count + 1;
-        Ok(count as u16)
-    }
-
-    fn remove(&mut self, link: u16) -> Result<(), NetFault>
-        ensures answer { told (λ _. []) result ≡ withdraw_told (table self.old.count self.old.links.now) link }
-        ensures left { table self.new.count self.new.links.now ≡ withdraw_left (table self.old.count self.old.links.now) link }
-        ensures nodes { self.new.nodes ≡ self.old.nodes }
-    {
-        let count = in_use(512, self.count, self.links.len());
-        let at = usize::from(link);
-        if at >= count {
-            return Err(NetFault::NoLink);
-        }
-        take_out(self.links, count, at);
-        self.count = count - 1;
-        Ok(())
+        let Laying { nodes, links } = self;
+        Service { nodes, links }
     }
 }

@@ -5,8 +5,9 @@ mod laying;
 mod service;
 mod shift;
 mod streams;
-mod table;
 mod types;
 
 pub use shift::perform;
-pub use types::{Answer, Book, Call, Laying, NetFault, Request, Service, Shift, Stream};
+pub use types::{
+    Answer, Book, Call, Laying, Links, NetFault, Refusal, Request, Service, Shift, Stream, Streams,
+};

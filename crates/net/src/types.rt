@@ -1,24 +1,30 @@
 // A net being laid, a net in service, the book, and what they answer.
 ghost use Rattle.std.specs.Prelude.{◌≡◌};
 ghost use Rattle.net.specs.declared.types.NetFault.TheVariants.{Search};
+ghost use Rattle.net.specs.declared.types.Refusal.TheVariants.{Fault};
 
 use kinds::Kind;
 use search::{Link, SearchFault};
+use slice_vec::SliceVec;
+
+// The links of a net, in order of number: at most 512, in a lent table.
+pub type Links<'a, U> = SliceVec<'a, Link<U>, 512>;
+
+// The records of the standing streams, in order of booking: at most 64, in a lent table.
+pub type Streams<'a> = SliceVec<'a, Stream, 64>;
 
 // A net being laid: links may be added and withdrawn.
 #[derive(Drop)]
 pub struct Laying<'a, K: Kind> {
     pub(crate) nodes: u16,
-    pub(crate) count: usize,
-    pub(crate) links: &'a mut [Link<K::Use>],
+    pub(crate) links: Links<'a, K::Use>,
 }
 
 // A net in service: streams may be booked and released.
 #[derive(Drop)]
 pub struct Service<'a, K: Kind> {
     pub(crate) nodes: u16,
-    pub(crate) count: usize,
-    pub(crate) links: &'a mut [Link<K::Use>],
+    pub(crate) links: Links<'a, K::Use>,
 }
 
 // A stream in the book: its number, rate, figure and hops, and the numbers of its links in order, unused places 0.
@@ -31,11 +37,10 @@ pub struct Stream {
     pub links: [u16; 16],
 }
 
-// The standing streams, in order of booking.
+// The standing streams.
 #[derive(Drop)]
 pub struct Book<'a> {
-    pub(crate) count: usize,
-    pub(crate) streams: &'a mut [Stream],
+    pub(crate) streams: Streams<'a>,
 }
 
 // What a booking asks, beside the kind's values.
@@ -48,7 +53,7 @@ pub struct Request {
     pub hop_limit: u16,
 }
 
-#[derive(Drop)]
+#[derive(Clone, Copy, Debug, PartialEq, Eq)]
 pub enum NetFault {
     NodeCount,
     Tail,
@@ -101,8 +106,9 @@ pub enum Net<'a, K: Kind> {
     Serving(Service<'a, K>),
 }
 
-// The answer to a call.
-#[derive(Drop)]
+// The answer to a call that was not refused. A shown route lies at the start of its sixteen places: an answer has no
+// heap to keep it in.
+#[derive(Clone, Copy, Debug)]
 pub enum Answer {
     Done,
     Added(u16),
@@ -115,19 +121,30 @@ pub enum Answer {
     },
     Loaded(u64),
     Ended(usize),
-    Refused(NetFault),
+}
+
+// Why a call was refused.
+#[derive(Clone, Copy, Debug, PartialEq, Eq)]
+pub enum Refusal {
+    Fault(NetFault),
     // The net's state does not take the call.
     NotTaken,
 }
 
-// What a list of calls leaves: whether the net is in service, its links and the records of the book, which lie at the
-// start of their tables, and the answers in order.
+impl From<NetFault> for Refusal {
+    ghost from_gives = { λ f r. r ≡ Fault f };
+
+    fn from(fault: NetFault) -> Refusal {
+        Refusal::Fault(fault)
+    }
+}
+
+// What a list of calls leaves: whether the net is in service, its links, the records of the book, and what the calls
+// got, in order.
 #[derive(Drop)]
 pub struct Shift<'a, 'b, U: Copy> {
     pub serving: bool,
-    pub link_count: usize,
-    pub links: &'a mut [Link<U>],
-    pub stream_count: usize,
-    pub streams: &'b mut [Stream],
-    pub answers: Vec<Answer>,
+    pub links: Links<'a, U>,
+    pub streams: Streams<'b>,
+    pub answers: Vec<Result<Answer, Refusal>>,
 }

@@ -1,38 +1,34 @@
-use Rattle.std.proofs.Common.{◌≡◌, ◌≤◌, min, [], length, take, sym, ap, ◌∙◌, ⊎_elim, arith}
-use Rattle.std.proofs.lemmas.List.{length-map, length-take-le}
-use Rattle.std.proofs.lemmas.Bool.{cond-true, cond-false, lt-ltb, le-ltb, le-leb, lt-leb, ne_eqb}
-use Rattle.net.specs.Calls.{numbers_of}
-use Rattle.net.specs.Questions.{book_refusal, route_refusal, unless}
-use Rattle.net.specs.Tables.{place_of}
+use Rattle.std.proofs.Common.{eqb, [], sym, ap, ◌∙◌}
+use Rattle.std.specs.List.{position}
+use Rattle.std.specs.Option.{is_some}
+use Rattle.std.proofs.lemmas.Bool.{cond-true, cond-false, ne_eqb}
+use Rattle.slice_vec.specs.Tables.{listed}
+use Rattle.net.specs.Questions.{unless}
+use Rattle.net.proofs.Scans.{taken_is, full_is}
 use Rattle.net.proofs.Tabled.{unless_refused}
 use Rattle.net.proofs.service.check_request.Goals as goal
 
-pub returns-then-place_among-count : goal.returns-then-place_among-count
-returns-then-place_among-count c =
-    let standing = take c.args.count c.args.streams.now in
-    let long = length-map standing (λ s. s.number) ∙ length-take-le c.args.count c.args.streams.now (omega arith) in
+pub returns-then-is_some : goal.returns-then-is_some
+returns-then-is_some c =
     let r = c.args.request.now in
-    let taken = lt-ltb (place_of r.stream (numbers_of standing)) (length (numbers_of standing)) (omega (arith, c.place_among.ensures)) in
-    let refusal : book_refusal c.args.nodes (min 64 (length c.args.streams.now)) (numbers_of standing) r ≡ 9 = cond-false _ _ _ (ne_eqb _ _ c.if-request-eq0.false) ∙ cond-true _ _ _ taken in
-    sym (unless_refused _ 8 _ refusal)
+    let ss = listed 64 c.args.book.now.streams in
+    let taken = taken_is r.stream ss ∙ ap (λ xs. is_some (position (λ s. eqb s.number r.stream) xs)) (sym c.as_slice.ensures.items) ∙ ap is_some (sym c.place_of.ensures) ∙ sym c.is_some.ensures ∙ c.if-is_some.true in
+    sym (unless_refused _ 8 _ (cond-false _ _ _ (ne_eqb _ _ c.if-request-eq0.false) ∙ cond-true _ _ _ taken))
 
-pub returns-then-count-ge64 : goal.returns-then-count-ge64
-returns-then-count-ge64 c =
-    let standing = take c.args.count c.args.streams.now in
-    let long = length-map standing (λ s. s.number) ∙ length-take-le c.args.count c.args.streams.now (omega arith) in
+pub returns-then-is_full : goal.returns-then-is_full
+returns-then-is_full c =
     let r = c.args.request.now in
-    let free = le-ltb (place_of r.stream (numbers_of standing)) (length (numbers_of standing)) (omega (arith, c.place_among.ensures)) in
-    let filled : min 64 (length c.args.streams.now) ≤ c.args.count = ⊎_elim (λ h. omega arith) (λ h. omega (arith, h.1)) c.then-count-ge64.either in
-    let room = le-leb (min 64 (length c.args.streams.now)) (length (numbers_of standing)) (omega arith) in
-    let refusal : book_refusal c.args.nodes (min 64 (length c.args.streams.now)) (numbers_of standing) r ≡ 10 = cond-false _ _ _ (ne_eqb _ _ c.if-request-eq0.false) ∙ cond-false _ _ _ free ∙ cond-true _ _ _ room in
-    sym (unless_refused _ 9 _ refusal)
+    let b = c.args.book.now.streams in
+    let ss = listed 64 b in
+    let free = taken_is r.stream ss ∙ ap (λ xs. is_some (position (λ s. eqb s.number r.stream) xs)) (sym c.as_slice.ensures.items) ∙ ap is_some (sym c.place_of.ensures) ∙ sym c.is_some.ensures ∙ c.if-is_some.false in
+    let full = full_is b c.is_full.ensures.within ∙ sym c.is_full.ensures.full ∙ c.if-is_full.true in
+    sym (unless_refused _ 9 _ (cond-false _ _ _ (ne_eqb _ _ c.if-request-eq0.false) ∙ cond-false _ _ _ free ∙ cond-true _ _ _ full))
 
 pub returns : goal.returns
 returns c =
-    let standing = take c.args.count c.args.streams.now in
-    let long = length-map standing (λ s. s.number) ∙ length-take-le c.args.count c.args.streams.now (omega arith) in
     let r = c.args.request.now in
-    let free = le-ltb (place_of r.stream (numbers_of standing)) (length (numbers_of standing)) (omega (arith, c.place_among.ensures)) in
-    let room = lt-leb (min 64 (length c.args.streams.now)) (length (numbers_of standing)) (omega arith) in
-    let refusal : book_refusal c.args.nodes (min 64 (length c.args.streams.now)) (numbers_of standing) r ≡ route_refusal c.args.nodes r = cond-false _ _ _ (ne_eqb _ _ c.if-request-eq0.false) ∙ cond-false _ _ _ free ∙ cond-false _ _ _ room in
-    c.check_route.ensures ∙ ap (λ n. unless n []) (sym refusal)
+    let b = c.args.book.now.streams in
+    let ss = listed 64 b in
+    let free = taken_is r.stream ss ∙ ap (λ xs. is_some (position (λ s. eqb s.number r.stream) xs)) (sym c.as_slice.ensures.items) ∙ ap is_some (sym c.place_of.ensures) ∙ sym c.is_some.ensures ∙ c.if-is_some.false in
+    let room-left = full_is b c.is_full.ensures.within ∙ sym c.is_full.ensures.full ∙ c.if-is_full.false in
+    c.check_route.ensures ∙ ap (λ n. unless n []) (sym (cond-false _ _ _ (ne_eqb _ _ c.if-request-eq0.false) ∙ cond-false _ _ _ free ∙ cond-false _ _ _ room-left))

@@ -1,7 +1,8 @@
 use Rattle.std.proofs.Common.{◌≡◌, ◌-◌, Bool, false, List, length, take, replicate, ap, ◌∙◌, arith}
 use lib.ListN.{length-replicate}
 use Rattle.search.specs.Answers.{answer}
-use Rattle.search.specs.Rule.{asked, made, stored}
+use Rattle.search.specs.Rule.{asked, made}
+use Rattle.slice_vec.specs.Tables.{stored}
 use Rattle.net.specs.Tables.{load, flags_for}
 use Rattle.net.proofs.Flags.{flags_stored}
 use Rattle.net.proofs.service.find_route.Goals as goal

@@ -14,7 +14,7 @@ loop-i-preserved g c =
     written_more (flags_for ld c.args.rate c.args.links.now) c.loop-i.i c.args.flags.now c.loop-i.flags c.has_room.result (omega arith)
     (λ d.
     c.has_room.ensures
-    ∙ ap (λ x. is_open_to link.capacity x c.args.rate) c.load_of.ensures.value
+    ∙ ap (λ x. is_open_to link.capacity x c.args.rate) c.load_of.ensures
     ∙ ap (λ x. is_open_to x.capacity (ld c.loop-i.i) c.args.rate) c.index-links-i.is
     ∙ sym (flag_of ld c.args.rate c.args.links.now c.loop-i.i d link c.loop-i-test.true))
     c.loop-i.invariant

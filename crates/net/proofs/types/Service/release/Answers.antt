@@ -1,25 +1,32 @@
-use Rattle.std.proofs.Common.{true, refl}
-use Rattle.net.specs.Calls.{release_told, release_left}
-use Rattle.net.specs.Ledger.{after}
-use Rattle.net.specs.Tables.{table}
-use Rattle.net.specs.declared.types.Call.TheVariants.{Release}
-use Rattle.net.proofs.Following.{follows}
-use Rattle.net.proofs.Matching.{release_matches}
+use Rattle.std.proofs.Common.{eqb, [], sym, ap, ◌∙◌}
+use Rattle.std.specs.List.{position}
+use Rattle.std.proofs.lemmas.Result.{err_from_is_err_and}
+use Rattle.slice_vec.specs.Tables.{listed}
+use Rattle.net.specs.Questions.{no_values}
+use Rattle.net.specs.declared.types.NetFault.TheVariants.{NoStream}
+use Rattle.net.proofs.Scans.{missing, there, told_err, unknown, known, popped_stream}
+use Rattle.net.proofs.Steps.{release_steps}
+use Rattle.net.proofs.Tabled.{unless_none, unless_refused, leave_refused}
 use Rattle.net.proofs.types.Service.release.Goals as goal
+
+pub returns-in_err-at : goal.returns-in_err-at
+returns-in_err-at g c =
+    let net = c.args.self.now in
+    let b = c.args.book.now.streams in
+    let n = c.args.stream in
+    let p = err_from_is_err_and c.from_residual.result c.from_residual.ensures.1 in
+    let none = missing c.place_of.result _ _ (sym c.ok_or.ensures.value ∙ c.in_err-at.was) in
+    let refused = unknown n (listed 64 b) (ap (position (λ s. eqb s.number n)) (sym c.as_slice.ensures.items) ∙ sym c.place_of.ensures ∙ none.0) in
+    let answer = told_err no_values c.from_residual.result p.0 NoStream p.1 (p.2 ∙ none.1) ∙ sym (unless_refused _ 17 [] refused) in
+    let left = sym (leave_refused b _ 17 _ refused) in
+    record { answer = answer; left = left; ledger = release_steps g.K.Kind.model net.nodes net.links b _ n b answer left }
 
 pub returns : goal.returns
 returns g c =
-    let m = g.K.Kind.model in
-    let laws = g.met.K.Kind.laws in
     let net = c.args.self.now in
-    let book = c.args.book.now in
-    let t = table net.count net.links.now in
-    let b = table book.count book.streams.now in
-    let done = c.end.ensures in
+    let b = c.args.book.now.streams in
     let n = c.args.stream in
-    record {
-      answer = done.answer;
-      left = done.left;
-      ledger = λ site calls h.
-          follows m site calls (Release n) true (release_told b n) net.nodes t (release_left b n) (release_matches m site (after m site calls) net.nodes t b h n) _ net.nodes t _ done.answer refl refl done.left;
-    }
+    let found = ap (position (λ s. eqb s.number n)) (sym c.as_slice.ensures.items) ∙ sym c.place_of.ensures ∙ there c.place_of.result _ _ (sym c.ok_or.ensures.value ∙ c.in_ok-at.was) in
+    let answer = sym (unless_none _ [] (known n (listed 64 b) c.in_ok-at.at found)) in
+    let left = c.pop_at.ensures.left ∙ popped_stream b n c.in_ok-at.at found in
+    record { answer = answer; left = left; ledger = release_steps g.K.Kind.model net.nodes net.links b _ n c.pop_at.new.self answer left }
