@@ -9,7 +9,7 @@ pub struct Found {
     pub count: usize,
 }
 
-#[derive(Clone, Copy)]
+#[derive(Clone, Copy, Debug, PartialEq, Eq)]
 pub enum SearchFault {
     Full,
     NoRoute,
