@@ -1,13 +1,14 @@
 -- What the answer of a search says of every route there is. Assumes nothing.
-use Rattle.std.proofs.Common.{◌≡◌, ℕ, zero, suc, ◌<◌, ◌≤◌, List, [], ◌∷◌, ◌++◌, map, length, get_or, take, drop, Some, None, Ok, Err, Option, Result, sym, refl, ap, ◌∙◌, subst, ap₂, ⊎_elim, arith}
+use Rattle.std.proofs.Common.{◌≡◌, ℕ, zero, suc, ◌<◌, ◌≤◌, List, [], ◌∷◌, ◌++◌, map, length, get_or, drop, Some, None, Ok, Err, Option, Result, sym, refl, ap, ◌∙◌, subst, ap₂, ⊎_elim, arith}
 use mathlib.Core.Path.{subst₃}
 use mathlib.Core.List.{map-append}
 use Rattle.std.proofs.lemmas.List.{get_or_append_left, get_or-map, length-map}
-use Rattle.std.proofs.lemmas.Bool.{cond-true, cond-false, lt-ltb, le-ltb}
 use Rattle.kinds.specs.Kinds.{Model, Laws}
-use Rattle.search.specs.Answers.{Least, best, told, answer_of, answer, Promise}
+use Rattle.search.specs.Answers.{Least, best, told, answer_of, Promise}
 use Rattle.search.specs.Routes.{Among, heads, Leads, Route, Cheapest, way, route_of}
-use Rattle.search.specs.Rule.{Query, label0, made, stored, Stores}
+use Rattle.search.specs.Rule.{Query, label0, made}
+use Rattle.slice_vec.specs.Tables.{stored}
+use Rattle.slice_vec.proofs.Tables.{stored_fits}
 use Rattle.search.specs.declared.answer.Best.{Best}
 use Rattle.search.specs.declared.answer.Found.{Found}
 use Rattle.search.specs.declared.answer.SearchFault.{SearchFault}
@@ -15,7 +16,6 @@ use Rattle.search.specs.declared.answer.SearchFault.TheVariants.{Full, NoRoute}
 use Rattle.search.specs.declared.label.Label.{Label}
 use Rattle.search.proofs.Chosen.{NoneThere, Picked, picked}
 use Rattle.search.proofs.Coverage.{route_covered}
-use Rattle.search.proofs.Storing.{kept, full, stored_fits}
 use Rattle.search.proofs.Tree.{at, tree_made}
 use Rattle.search.proofs.Walks.{leads_end}
 use Rattle.search.proofs.WayBack.{way_back}
@@ -86,32 +86,19 @@ module _ {K S U : Type 0} (m : Model K S U) (laws : Laws m) (q : Query K U) wher
   apart_none f e = let z : ◌≡◌ {A = ℕ} 0 1 = cc in omega arith
 
   module _ (old left : List (Label S)) where
-    pub promised_full : Stores (made m q) old None left → Promise m q (length old) (Err Full) left
-    promised_full h =
-        let over = (full (made m q) old left h).0 in
-        record {
-          full = (λ e. over, λ lt. refl);
-          none = λ fits. absurd (omega arith);
-          some = λ f e. absurd (apart f e);
-          same_ends = same_ends;
-        }
+    pub promised_full : length old < length (made m q) → Promise m q (length old) (Err Full) left
+    promised_full over = record {
+      full = (λ e. over, λ lt. refl);
+      none = λ fits. absurd (omega arith);
+      some = λ f e. absurd (apart f e);
+      same_ends = same_ends;
+    }
 
-    pub answer_full : Stores (made m q) old None left → (16, []) ≡ answer m q (length old)
-    answer_full h = sym (cond-true _ _ _ (lt-ltb _ _ (full (made m q) old left h).0))
-
-    module _ (count : ℕ) (h : Stores (made m q) old (Some count) left) where
-      pub answer_fits : (r : Result Found SearchFault) → told r ≡ answer_of (best m q.kind q.target (take count left)) count → told r ≡ answer m q (length old)
-      answer_fits r e =
-          let k = kept (made m q) old count left h in
-          e ∙ ap₂ (λ ls n. answer_of (best m q.kind q.target ls) n) k.front k.counts ∙ sym (cond-false _ _ _ (le-ltb (length old) (length (made m q)) (omega (arith, k.fits, k.counts))))
-
-      fits : length (made m q) ≤ length old
-      fits = let k = kept (made m q) old count left h in omega (arith, k.fits, k.counts)
-
+    module _ (fits : length (made m q) ≤ length old) (is : left ≡ stored (made m q) old) where
       left_is : left ≡ made m q ++ drop (length (made m q)) old
-      left_is = h.places ∙ stored_fits old (made m q) fits
+      left_is = is ∙ stored_fits old (made m q) fits
 
-      by_cases : (r : Result Found SearchFault) (b : Option Best) → told r ≡ answer_of b count → Picked m q.kind q.target (made m q) b → Promise m q (length old) r left
+      by_cases : (r : Result Found SearchFault) (b : Option Best) → told r ≡ answer_of b (length (made m q)) → Picked m q.kind q.target (made m q) b → Promise m q (length old) r left
       by_cases (Ok f) None e p = absurd (let z = ap (λ x. x.0) e in omega arith)
       by_cases (Ok f) (Some b) e p =
           let values = ap (λ x. x.1) e in
@@ -143,10 +130,8 @@ module _ {K S U : Type 0} (m : Model K S U) (laws : Laws m) (q : Query K U) wher
           full_none s = let z : ◌≡◌ {A = ℕ} 0 1 = cc in omega arith
       by_cases (Err NoRoute) (Some b) e p = absurd (let z = ap (λ x. x.0) e in omega arith)
 
-      pub promised_fits : (r : Result Found SearchFault) → told r ≡ answer_of (best m q.kind q.target (take count left)) count → Promise m q (length old) r left
-      promised_fits r e =
-          let k = kept (made m q) old count left h in
-          by_cases r (best m q.kind q.target (made m q)) (e ∙ ap (λ ls. answer_of (best m q.kind q.target ls) count) k.front) (picked m q.kind q.target (made m q))
+      pub promised_fits : (r : Result Found SearchFault) → told r ≡ answer_of (best m q.kind q.target (made m q)) (length (made m q)) → Promise m q (length old) r left
+      promised_fits r e = by_cases r (best m q.kind q.target (made m q)) e (picked m q.kind q.target (made m q))
 
   -- what the best label, or none, says of every route there is
   pub best_inside : (b : Best) → best m q.kind q.target (made m q) ≡ Some b → b.label < length (made m q)

@@ -1,3 +1,4 @@
 pub mod Answers
+pub mod Labels
 pub mod Routes
 pub mod Rule

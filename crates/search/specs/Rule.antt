@@ -1,5 +1,5 @@
 -- The label rule: which labels a search makes, for a table without end. Assumes nothing.
-use Rattle.std.specs.Prelude.{◌≡◌, ℕ, zero, suc, ◌+◌, Bool, false, cond, not, ◌&&◌, ◌||◌, List, [], ◌∷◌, ◌++◌, length, take, drop, Some, None, Option, ◌==◌, nat_le, nat_lt, slice_index_or}
+use Rattle.std.specs.Prelude.{ℕ, zero, suc, ◌+◌, Bool, false, cond, not, ◌&&◌, ◌||◌, List, [], ◌∷◌, ◌++◌, length, ◌==◌, nat_le, nat_lt, slice_index_or}
 use Rattle.kinds.specs.Kinds.{Model}
 use Rattle.search.specs.declared.label.Label.{Label}
 use Rattle.search.specs.declared.label.Link.{Link}
@@ -74,16 +74,3 @@ module _ {K S U : Type 0} (m : Model K S U) (q : Query K U) where
   -- the labels when all have been taken
   unfoldable pub made : List (Label S)
   made = after (shorter q.hop_limit)
-
--- a table that holds the first labels of ls, as many as there are places, and is otherwise as it was
-abbrev pub stored : {X : Type 0} → List X → List X → List X
-stored ls table = take (length table) ls ++ drop (length ls) table
-
--- how many labels were stored, if all of them found a place
-abbrev pub counted : {X : Type 0} → List X → List X → Option ℕ
-counted ls table = cond (nat_le (length ls) (length table)) (Some (length ls)) None
-
--- what a step answers and leaves in the table where ls are the labels after it
-pub record Stores {X : Type 0} (ls table : List X) (answer : Option ℕ) (left : List X) : Type 0 where
-  pub count : answer ≡ counted ls table
-  pub places : left ≡ stored ls table

@@ -1,9 +1,10 @@
 // Picks the best label at the target.
-ghost use Rattle.std.specs.Prelude.{◌≡◌, ◌≤◌, length, take};
+ghost use Rattle.std.specs.Prelude.{◌≡◌, length};
 ghost use Rattle.search.specs.Answers.{lower, lesser, weighed, best, told, answer_of};
 
 use crate::answer::{Best, Found, SearchFault};
 use crate::label::Label;
+use crate::query::Query;
 use kinds::Kind;
 
 fn is_lower(a: &Best, b: &Best) -> bool
@@ -57,17 +58,11 @@ fn best_label<K: Kind>(kind: &K, target: u16, labels: &[Label<K::State>]) -> Opt
     so_far
 }
 
-// The answer of a search that made the first `count` labels of the table.
-pub fn pick<K: Kind>(
-    kind: &K,
-    target: u16,
-    count: usize,
-    labels: &[Label<K::State>],
-) -> Result<Found, SearchFault>
-    requires { count ≤ length labels.now }
-    ensures { told result ≡ answer_of (best K.Kind.model kind.now target (take count labels.now)) count }
+// The answer of a search that made these labels.
+pub fn pick<K: Kind>(query: &Query<K>, labels: &[Label<K::State>]) -> Result<Found, SearchFault>
+    ensures { told result ≡ answer_of (best K.Kind.model query.now.kind query.now.target labels.now) (length labels.now) }
 {
-    match best_label(kind, target, &labels[0..count]) {
+    match best_label(query.kind, query.target, labels) {
         None => Err(SearchFault::NoRoute),
         Some(
             Best {
@@ -79,7 +74,7 @@ pub fn pick<K: Kind>(
             label,
             figure,
             hops,
-            count,
+            count: labels.len(),
         }),
     }
 }

@@ -1,4 +1,5 @@
 // Links and labels.
+ghost use Rattle.std.specs.Prelude.{◌<◌, ◌≤◌, length};
 
 // A one-way link from its tail to its head, with what it takes of a limit.
 #[derive(Clone, Copy)]
@@ -17,4 +18,21 @@ pub struct Label<S> {
     pub state: S,
     pub from: usize,
     pub link: u16,
+}
+
+// The labels made so far, in the first places of a lent table. No `SliceVec`, whose model hides the loan: after it ends,
+// no proof knows what the table holds.
+#[derive(Drop)]
+pub struct Labels<'a, S: Copy> {
+    pub(crate) count: usize,
+    pub(crate) places: &'a mut [Label<S>],
+    ghost within: { count ≤ length places.now },
+}
+
+// A label that is taken, with its number. A route may have a link more than it has.
+#[derive(Drop)]
+pub struct Taken<S: Copy> {
+    pub number: usize,
+    pub label: Label<S>,
+    ghost short: { label.hops < 65535 },
 }

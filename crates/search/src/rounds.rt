@@ -1,10 +1,11 @@
-// Makes the labels of a search, round by round. `None` says that the table has no place for a label.
-ghost use Rattle.std.specs.Prelude.{◌≡◌, ℕ, ◌<◌, ◌≤◌, Bool, false, not, ◌&&◌, List, length, get_or, take, if◌then◌else◌, Some, None, nat_lt, slice_index_or};
-ghost use Rattle.search.specs.Rule.{is_open, candidate, beats, beaten, offered, first, tried, tries, turn, made, asked, Stores};
-ghost use Rattle.search.specs.declared.label.Label.{Label};
-ghost use Rattle.search.specs.declared.label.Link.{Link};
+// Makes the labels of a search, round by round.
+ghost use Rattle.std.specs.Prelude.{◌≡◌, ◌++◌, false, not, ◌&&◌, if◌then◌else◌, Some, None, slice_index_or};
+ghost use Rattle.search.specs.Labels.{held, Stores};
+ghost use Rattle.search.specs.Rule.{is_open, candidate, beats, beaten, offered, first, tried, tries, turn, made};
 
-use crate::label::{Label, Link};
+use crate::answer::SearchFault;
+use crate::label::{Label, Labels, Link, Taken};
+use crate::query::Query;
 use kinds::Kind;
 
 fn is_set(flags: &[bool], i: usize) -> bool
@@ -41,170 +42,127 @@ fn is_beaten<K: Kind>(kind: &K, label: &Label<K::State>, labels: &[Label<K::Stat
     false
 }
 
-// Whether a label is not within, or is beaten by one of the first `count`.
-fn is_dropped<K: Kind>(
-    kind: &K,
-    label: &Label<K::State>,
-    count: usize,
-    labels: &[Label<K::State>],
-) -> bool
-    requires { count ≤ length labels.now }
-    ensures { result ≡ not (K.Kind.model.within kind.now label.now.state && not (beaten K.Kind.model kind.now label.now (take count labels.now))) }
+// Whether a label is not within, or is beaten by one of the labels.
+fn is_dropped<K: Kind>(kind: &K, label: &Label<K::State>, labels: &[Label<K::State>]) -> bool
+    ensures { result ≡ not (K.Kind.model.within kind.now label.now.state && not (beaten K.Kind.model kind.now label.now labels.now)) }
 {
-    if !kind.within(&label.state) {
-        return true;
-    }
-    is_beaten(kind, label, &labels[0..count])
-}
-
-fn has_place(count: usize, places: usize) -> bool
-    ensures { result ≡ nat_lt count places }
-{
-    count < places
+    !kind.within(&label.state) || is_beaten(kind, label, labels)
 }
 
 // Stores a label that is not dropped.
 fn offer<K: Kind>(
     kind: &K,
-    label: &Label<K::State>,
-    count: usize,
-    labels: &mut [Label<K::State>],
-) -> Option<usize>
-    requires { count ≤ length labels.old }
-    ensures { Stores (offered K.Kind.model kind.now label.now (take count labels.old)) labels.old result labels.new }
+    label: Label<K::State>,
+    labels: &mut Labels<K::State>,
+) -> Result<(), SearchFault>
+    ensures { Stores (offered K.Kind.model kind.now label (held labels.old)) labels.old result labels.new }
 {
-    if is_dropped(kind, label, count, labels) {
-        return Some(count);
+    if is_dropped(kind, &label, labels.as_slice()) {
+        return Ok(());
     }
-    if !has_place(count, labels.len()) {
-        return None;
-    }
-    labels[count] = *label;
-    Some(count + 1)
+    labels.push(label)
 }
 
-// What label `next` gives over a link.
+// What a label that is taken gives over a link.
 fn step_over<K: Kind>(
     kind: &K,
+    taken: &Taken<K::State>,
     number: u16,
     link: &Link<K::Use>,
-    next: usize,
-    labels: &[Label<K::State>],
 ) -> Label<K::State>
-    requires { (next < length labels.now) × (((d : Label K.State) → (get_or labels.now next d).hops < 65535)) }
-    ensures { (d : Label K.State) → result ≡ candidate K.Kind.model kind.now next (slice_index_or labels.now next d) number link.now }
+    ensures { result ≡ candidate K.Kind.model kind.now taken.now.number taken.now.label number link.now }
 {
     Label {
         node: link.head,
-        hops: labels[next].hops + 1,
-        state: kind.extend(&labels[next].state, &link.taken),
-        from: next,
+        hops: taken.label.hops + 1,
+        state: kind.extend(&taken.label.state, &link.taken),
+        from: taken.number,
         link: number,
     }
 }
 
 fn try_link<K: Kind>(
-    kind: &K,
-    flags: &[bool],
+    query: &Query<K>,
+    taken: &Taken<K::State>,
     i: usize,
     link: &Link<K::Use>,
-    next: usize,
-    count: usize,
-    labels: &mut [Label<K::State>],
-) -> Option<usize>
-    requires { (next < count) × ((count ≤ length labels.old) × (((d : Label K.State) → (get_or labels.old next d).hops < 65535))) }
-    ensures { (d : Label K.State) → Stores (tried K.Kind.model kind.now flags.now next (slice_index_or labels.old next d) i link.now (take count labels.old)) labels.old result labels.new }
+    labels: &mut Labels<K::State>,
+) -> Result<(), SearchFault>
+    ensures { Stores (tried K.Kind.model query.now.kind query.now.flags taken.now.number taken.now.label i link.now (held labels.old)) labels.old result labels.new }
 {
-    let Some(number) = open_number(flags, i) else {
-        return Some(count);
+    let Some(number) = open_number(query.flags, i) else {
+        return Ok(());
     };
-    if link.tail != labels[next].node {
-        return Some(count);
+    if link.tail != taken.label.node {
+        return Ok(());
     }
-    let label = step_over(kind, number, link, next, labels);
-    offer(kind, &label, count, labels)
+    offer(
+        query.kind,
+        step_over(query.kind, taken, number, link),
+        labels,
+    )
 }
 
-// Tries the links in order of number for label `next`.
+// Tries the links in order of number for a label that is taken.
 fn try_links<K: Kind>(
-    kind: &K,
-    links: &[Link<K::Use>],
-    flags: &[bool],
-    next: usize,
-    mut count: usize,
-    labels: &mut [Label<K::State>],
-) -> Option<usize>
-    requires { (next < count) × ((count ≤ length labels.old) × (((d : Label K.State) → (get_or labels.old next d).hops < 65535))) }
-    ensures { (d : Label K.State) → Stores (tries K.Kind.model kind.now flags.now next (slice_index_or labels.old next d) 0 links.now (take count labels.old)) labels.old result labels.new }
+    query: &Query<K>,
+    taken: &Taken<K::State>,
+    labels: &mut Labels<K::State>,
+) -> Result<(), SearchFault>
+    ensures { Stores (tries K.Kind.model query.now.kind query.now.flags taken.now.number taken.now.label 0 query.now.links (held labels.old)) labels.old result labels.new }
 {
-    for (i, link) in links.iter().enumerate() {
-        count = try_link(kind, flags, i, link, next, count, labels)?;
+    for (i, link) in query.links.iter().enumerate() {
+        try_link(query, taken, i, link, labels)?;
     }
-    Some(count)
+    Ok(())
 }
 
-// Takes label `next`, if there is one; one at the target, or with as many hops as the hop limit, is passed over.
+// Takes label `number`, if there is one; one at the target, or with as many hops as the hop limit, is passed over.
 fn take_label<K: Kind>(
-    kind: &K,
-    links: &[Link<K::Use>],
-    flags: &[bool],
-    target: u16,
-    hop_limit: u16,
-    next: usize,
-    count: usize,
-    labels: &mut [Label<K::State>],
-) -> Option<usize>
-    requires { count ≤ length labels.old }
-    ensures { (source : ℕ) → Stores (turn K.Kind.model (asked kind.now links.now flags.now source target hop_limit) next (take count labels.old)) labels.old result labels.new }
+    query: &Query<K>,
+    number: usize,
+    labels: &mut Labels<K::State>,
+) -> Result<(), SearchFault>
+    ensures { Stores (turn K.Kind.model query.now number (held labels.old)) labels.old result labels.new }
 {
-    if next >= count {
-        return Some(count);
+    let Some(&label) = labels.as_slice().get(number) else {
+        return Ok(());
+    };
+    if label.node == query.target || label.hops >= query.hop_limit {
+        return Ok(());
     }
-    if labels[next].node == target {
-        return Some(count);
-    }
-    if labels[next].hops >= hop_limit {
-        return Some(count);
-    }
-    try_links(kind, links, flags, next, count, labels)
+    try_links(query, &Taken { number, label }, labels)
 }
 
-// Makes label 0, the source, if the start state is within.
-fn make_first<K: Kind>(kind: &K, source: u16, labels: &mut [Label<K::State>]) -> Option<usize>
-    ensures { (links : List (Link K.Use)) (flags : List Bool) (target hop_limit : ℕ) → Stores (first K.Kind.model (asked kind.now links flags source target hop_limit)) labels.old result labels.new }
+// Makes the label of the source, if the start state is within.
+fn make_first<K: Kind>(query: &Query<K>, labels: &mut Labels<K::State>) -> Result<(), SearchFault>
+    ensures { Stores (held labels.old ++ first K.Kind.model query.now) labels.old result labels.new }
 {
-    let state = kind.start();
-    if !kind.within(&state) {
-        return Some(0);
+    let state = query.kind.start();
+    if !query.kind.within(&state) {
+        return Ok(());
     }
-    if labels.is_empty() {
-        return None;
-    }
-    labels[0] = Label {
-        node: source,
+    labels.push(Label {
+        node: query.source,
         hops: 0,
         state,
         from: 0,
         link: 0,
-    };
-    Some(1)
+    })
 }
 
-// Makes all labels of the rule, in the table from its start.
+// Makes all labels of the rule, in a list that has none.
 pub fn make_labels<K: Kind>(
-    kind: &K,
-    links: &[Link<K::Use>],
-    flags: &[bool],
-    source: u16,
-    target: u16,
-    hop_limit: u16,
-    labels: &mut [Label<K::State>],
-) -> Option<usize>
-    ensures { Stores (made K.Kind.model (asked kind.now links.now flags.now source target hop_limit)) labels.old result labels.new }
+    query: &Query<K>,
+    labels: &mut Labels<K::State>,
+) -> Result<(), SearchFault>
+    requires { labels.old.count ≡ 0 }
+    ensures { Stores (made K.Kind.model query.now) labels.old result labels.new }
 {
-    let mut count = make_first(kind, source, labels)?;
-    for next in 0..labels.len() {
-        count = take_label(kind, links, flags, target, hop_limit, next, count, labels)?;
+    make_first(query, labels)?;
+    // By number, as the list grows while its labels are taken.
+    for number in 0..labels.places.len() {
+        take_label(query, number, labels)?;
     }
-    Some(count)
+    Ok(())
 }

@@ -1,11 +1,13 @@
 // The search, and the route of a label.
 ghost use Rattle.std.specs.Prelude.{◌≡◌, length};
 ghost use Rattle.search.specs.Answers.{answer, told, fault_number, Promise};
-ghost use Rattle.search.specs.Rule.{asked, made, stored};
+ghost use Rattle.search.specs.Rule.{made};
+ghost use Rattle.slice_vec.specs.Tables.{stored};
 
 use crate::answer::{Found, SearchFault};
 use crate::best::pick;
-use crate::label::{Label, Link};
+use crate::label::{Label, Labels};
+use crate::query::Query;
 use crate::rounds::make_labels;
 use kinds::Kind;
 
@@ -20,22 +22,16 @@ impl SearchFault {
     }
 }
 
-// The cheapest route, and the shortest of those, from `source` to `target` over the links whose flag is set.
+// The cheapest route, and the shortest of those, from the source to the target over the links whose flag is set.
 pub fn search<K: Kind>(
-    kind: &K,
-    links: &[Link<K::Use>],
-    flags: &[bool],
-    source: u16,
-    target: u16,
-    hop_limit: u16,
+    query: &Query<K>,
     labels: &mut [Label<K::State>],
 ) -> Result<Found, SearchFault>
-    ensures answer { told result ≡ answer K.Kind.model (asked kind.now links.now flags.now source target hop_limit) (length labels.old) }
-    ensures table { labels.new ≡ stored (made K.Kind.model (asked kind.now links.now flags.now source target hop_limit)) labels.old }
-    ensures promise { Promise K.Kind.model (asked kind.now links.now flags.now source target hop_limit) (length labels.old) result labels.new }
+    ensures answer { told result ≡ answer K.Kind.model query.now (length labels.old) }
+    ensures table { labels.new ≡ stored (made K.Kind.model query.now) labels.old }
+    ensures promise { Promise K.Kind.model query.now (length labels.old) result labels.new }
 {
-    match make_labels(kind, links, flags, source, target, hop_limit, labels) {
-        None => Err(SearchFault::Full),
-        Some(count) => pick(kind, target, count, labels),
-    }
+    let mut list = Labels::new(labels);
+    make_labels(query, &mut list)?;
+    pick(query, list.as_slice())
 }

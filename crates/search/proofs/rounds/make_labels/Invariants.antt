@@ -1,7 +1,7 @@
-use Rattle.std.proofs.Common.{Some}
-use Rattle.search.specs.Rule.{asked, after, Stores}
+use Rattle.std.proofs.Common.{Ok}
+use Rattle.search.specs.Labels.{Stores}
+use Rattle.search.specs.Rule.{after}
 use Rattle.search.proofs.rounds.make_labels.Given as goal
 
-abbrev pub invariant-loop-next : goal.invariant-loop-next
-invariant-loop-next g l =
-    Stores (after g.K.Kind.model (asked l.kind l.links l.flags l.source l.target l.hop_limit) l.next) l.initial.labels (Some l.count) l.labels
+abbrev pub invariant-loop-number : goal.invariant-loop-number
+invariant-loop-number g l = Stores (after g.K.Kind.model l.query l.number) l.fn.labels (Ok tt) l.labels

@@ -1,28 +1,31 @@
-use Rattle.std.proofs.Common.{◌<◌, sym, subst, arith}
-use Rattle.search.proofs.Trying.{trying_none, trying_fits, trying_label, trying_more, trying_full, trying_all}
+use Rattle.std.proofs.Common.{◌<◌, ◌≤◌, length, get_or, ap, ◌∙◌, subst}
+use Rattle.std.proofs.lemmas.Result.{err_from_is_err_and}
+use Rattle.search.proofs.Trying.{trying_more, trying_full, trying_all}
 use Rattle.search.proofs.rounds.try_links.Goals as goal
 
-pub loop-i-init : goal.loop-i-init
-loop-i-init g c =
-    trying_none g.K.Kind.model c.args.kind.now c.args.flags.now c.args.links.now c.args.next c.args.labels.now c.args.count (omega arith) (omega arith)
-
-pub try_link-requires : goal.try_link-requires
-try_link-requires g c =
-    let f = trying_fits g.K.Kind.model c.args.kind.now c.args.flags.now c.args.links.now c.args.next c.args.labels.now c.args.count (omega arith) (omega arith) c.loop-i.i c.loop-i.count c.loop-i.labels c.loop-i.invariant in
-    let same = trying_label g.K.Kind.model c.args.kind.now c.args.flags.now c.args.links.now c.args.next c.args.labels.now c.args.count (omega arith) (omega arith) c.loop-i.i c.loop-i.count c.loop-i.labels c.loop-i.invariant in
-    (f.0, (f.1, λ d. subst (λ l. l.hops < 65535) (sym (same d)) (c.requires.1.1 d)))
-
-pub returns-in_err-count : goal.returns-in_err-count
-returns-in_err-count g c d =
-    rw c.from_residual.ensures
-    (trying_full g.K.Kind.model c.args.kind.now c.args.flags.now c.args.links.now c.args.next c.args.labels.now c.args.count (omega arith) (omega arith) c.loop-i.i c.loop-i.count c.loop-i.labels c.loop-i.invariant
-    c.index-links-i.result c.loop-i-test.true c.index-links-i.is c.try_link.new.labels d (c.in_err-count.ensures d))
+pub returns-in_err-try_link : goal.returns-in_err-try_link
+returns-in_err-try_link g c =
+    let q = c.args.query.now in
+    let taken = c.args.taken.now in
+    let p = err_from_is_err_and c.from_residual.result c.from_residual.ensures.1 in
+    rw (p.1, p.2)
+    (trying_full g.K.Kind.model q.kind q.flags q.links taken.number taken.label c.args.labels.now c.loop-i.i c.loop-i.labels c.loop-i.invariant c.link-item.result
+    (subst (λ x. c.loop-i.i < length x.links) c.query.view_is c.loop-i-test.true)
+    (c.link-item.is ∙ ap (λ x. get_or x.links c.loop-i.i c.link-item.result) c.query.view_is)
+    c.try_link.new.labels _ c.in_err-try_link.ensures)
 
 pub loop-i-preserved : goal.loop-i-preserved
 loop-i-preserved g c =
-    trying_more g.K.Kind.model c.args.kind.now c.args.flags.now c.args.links.now c.args.next c.args.labels.now c.args.count (omega arith) (omega arith) c.loop-i.i c.loop-i.count c.loop-i.labels c.loop-i.invariant
-    c.index-links-i.result c.loop-i-test.true c.index-links-i.is c.in_ok-count.count c.try_link.new.labels c.in_ok-count.ensures
+    let q = c.args.query.now in
+    let taken = c.args.taken.now in
+    trying_more g.K.Kind.model q.kind q.flags q.links taken.number taken.label c.args.labels.now c.loop-i.i c.loop-i.labels c.loop-i.invariant c.link-item.result
+    (subst (λ x. c.loop-i.i < length x.links) c.query.view_is c.loop-i-test.true)
+    (c.link-item.is ∙ ap (λ x. get_or x.links c.loop-i.i c.link-item.result) c.query.view_is)
+    c.try_link.new.labels c.in_ok-try_link.ensures
 
 pub returns : goal.returns
-returns g c d =
-    trying_all g.K.Kind.model c.args.kind.now c.args.flags.now c.args.links.now c.args.next c.args.labels.now c.args.count (omega arith) (omega arith) c.loop-i.i c.loop-i.count c.loop-i.labels c.loop-i.invariant c.loop-i-test.false d
+returns g c =
+    let q = c.args.query.now in
+    let taken = c.args.taken.now in
+    trying_all g.K.Kind.model q.kind q.flags q.links taken.number taken.label c.args.labels.now c.loop-i.i c.loop-i.labels c.loop-i.invariant
+    (subst (λ x. length x.links ≤ c.loop-i.i) c.query.view_is c.loop-i-test.false)

@@ -3,4 +3,4 @@ use Rattle.search.proofs.rounds.try_links.Given as goal
 
 abbrev pub invariant-loop-i : goal.invariant-loop-i
 invariant-loop-i g l =
-    Trying g.K.Kind.model l.kind l.flags l.links l.next l.initial.labels l.initial.count l.i l.count l.labels
+    Trying g.K.Kind.model l.query.kind l.query.flags l.query.links l.taken.number l.taken.label l.initial.labels l.i l.labels
