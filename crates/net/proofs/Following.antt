@@ -6,7 +6,7 @@ use Rattle.std.proofs.lemmas.Bool.{cases_Bool, cond-true, cond-false, cond_both,
 use Rattle.kinds.specs.Kinds.{Model, Laws}
 use Rattle.slice_vec.specs.Tables.{stored, Table, listed}
 use Rattle.search.specs.declared.label.Link.{Link}
-use Rattle.search.proofs.Storing.{stored_fits}
+use Rattle.slice_vec.proofs.Tables.{stored_fits}
 use Rattle.net.specs.Calls.{bearing, show_told, show_told_of, show_list, show_list_of, shown, show_within}
 use Rattle.net.specs.Ledger.{Entry, Ledger, Site, number, numbers, record_of, answer, next, after, show_values}
 use Rattle.net.specs.Matching.{Matches, Follows, Shows}

@@ -11,7 +11,7 @@ use Rattle.search.specs.Routes.{route_of}
 use Rattle.search.specs.Rule.{made}
 use Rattle.search.specs.declared.answer.Best.{Best}
 use Rattle.search.specs.declared.label.Link.{Link}
-use Rattle.search.proofs.Storing.{stored_fits}
+use Rattle.slice_vec.proofs.Tables.{stored_fits, length-listed, length_removed}
 use Rattle.net.specs.Calls.{numbers_of, add_told, add_left, withdraw_told, withdraw_left, release_told, release_left, load_told, booking, recorded, recorded_as, book_told_by, book_left}
 use Rattle.net.specs.Ledger.{Ledger, Site, numbers, booked_over, record_of, begun, asks, answer, entered, changed, next, after}
 use Rattle.net.specs.Matching.{Matches}
@@ -23,7 +23,6 @@ use Rattle.net.specs.declared.types.Call.TheVariants.{Add, Withdraw, Open, Book,
 use Rattle.net.specs.declared.types.Request.{Request}
 use Rattle.net.specs.declared.types.Stream.{Stream}
 use Rattle.net.proofs.Booking.{none_of, is_false, passed}
-use Rattle.slice_vec.proofs.Tables.{length-listed, length_removed}
 use Rattle.net.proofs.Standing.{Measured, load_same}
 use Rattle.net.proofs.Tabled.{stream_there}
 

@@ -3,7 +3,7 @@ use Rattle.std.proofs.Common.{◌≡◌, ℕ, ◌+◌, ◌-◌, ◌<◌, ◌≤�
 use Rattle.std.proofs.lemmas.List.{same_lists, get_or_append_left, get_or-append_right, get_or-drop, get_or-set_same, get_or-set_other, length-set}
 use Rattle.std.proofs.lemmas.Bool.{cases_lt, cases_eq}
 use Rattle.slice_vec.specs.Tables.{stored}
-use Rattle.search.proofs.Storing.{stored_fits}
+use Rattle.slice_vec.proofs.Tables.{stored_fits}
 
 -- the first i items of xs are written, the other places as they were
 pub record Written {X : Type 0} (xs : List X) (i : ℕ) (old new : List X) : Type 0 where

@@ -15,7 +15,7 @@ ghost use Rattle.net.specs.declared.types.Call.TheVariants.{Book as BookCall, Re
 use crate::streams::{load_of, mark_open, place_of};
 use crate::types::{Book, Laying, NetFault, Request, Service, Stream};
 use kinds::Kind;
-use search::{Found, Label, Link, SearchFault, route_to, search};
+use search::{Found, Label, Link, Query, SearchFault, route_to, search};
 use slice_vec::SliceVec;
 
 impl<'a> Book<'a> {
@@ -95,16 +95,15 @@ fn find_route<K: Kind>(
 {
     let mut flags = [false; 512];
     mark_open(links, streams, request.rate, &mut flags);
-    let count = links.len();
-    search(
+    let query = Query {
         kind,
         links,
-        &flags[0..count],
-        request.source,
-        request.target,
-        request.hop_limit,
-        labels,
-    )
+        flags: &flags[..links.len()],
+        source: request.source,
+        target: request.target,
+        hop_limit: request.hop_limit,
+    };
+    search(&query, labels)
 }
 
 // The record of a stream that was found a route.
