@@ -1,9 +1,10 @@
 -- What an answer that is shown tells of the rule's. Assumes nothing.
-use Rattle.std.specs.Prelude.{◌≡◌, ℕ, List, [], ◌∷◌}
-use Rattle.edges.specs.declared.Answer.{Answer}
-use Rattle.edges.specs.declared.Answer.TheVariants.{Route, Refused}
+use Rattle.std.specs.Prelude.{◌≡◌, ℕ, List, [], ◌∷◌, Ok, Err, Result}
+use Rattle.search.specs.Answers.{fault_number}
+use Rattle.search.specs.declared.answer.SearchFault.{SearchFault}
+use Rattle.edges.specs.declared.Route.{Route}
 
 -- it has the rule's figure, hops and count of labels, or its number
-abbrev pub Tells : Answer → ℕ × List ℕ → Type 0
-Tells (Route figure hops count path) t = (label : ℕ) × (t ≡ (0, label ∷ figure ∷ hops ∷ count ∷ []))
-Tells (Refused n) t = t ≡ (n, [])
+abbrev pub Tells : Result Route SearchFault → ℕ × List ℕ → Type 0
+Tells (Ok r) t = (label : ℕ) × (t ≡ (0, label ∷ r.figure ∷ r.hops ∷ r.labels ∷ []))
+Tells (Err f) t = t ≡ (fault_number f, [])

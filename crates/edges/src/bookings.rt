@@ -3,7 +3,7 @@ ghost use Rattle.std.specs.Prelude.{◌≡◌};
 ghost use Rattle.net.specs.Performed.{told_of};
 
 use kinds::{Budget, BudgetUse, Kind, Pair, PairUse};
-use net::{Answer, Call, Request, Stream, perform};
+use net::{Answer, Call, Refusal, Request, Stream, perform};
 use search::{Label, Link};
 use std::io;
 
@@ -11,20 +11,19 @@ type Limits = Pair<Budget, Budget>;
 
 type Take = PairUse<BudgetUse, BudgetUse>;
 
-// A call in words, and the number that it should get; 0 where it is not refused.
+// A call in words, and the number that it should get; 0 where it is not refused. It is the numbers that are shown here.
 #[derive(Clone, Copy)]
 struct Expected {
     call: &'static str,
     number: u16,
 }
 
-fn number_of(answer: &Answer) -> u16
+fn number_of(answer: &Result<Answer, Refusal>) -> u16
     ensures { result ≡ (told_of answer.now).0 }
 {
     match answer {
-        Answer::Refused(fault) => fault.number(),
-        Answer::NotTaken => 22,
-        _ => 0,
+        Ok(_) => 0,
+        Err(refusal) => refusal.number(),
     }
 }
 
@@ -86,19 +85,21 @@ fn book(stream: u16, target: u16, rate: u32, hop_limit: u16, places: usize) -> C
 }
 
 // Prints each call with the number it got, and whether that is the one expected.
-fn log(rt: &HostRuntime, all: &[Expected], answers: &[Answer]) -> io::Result<()> {
-    for i in 0..all.len() {
-        let call = all[i].call;
-        if i < answers.len() {
-            let number = number_of(&answers[i]);
-            let verdict = if number == all[i].number {
-                "ok"
-            } else {
-                "WRONG"
-            };
-            println!(rt; "{call}: {number}: {verdict}")?;
-        } else {
-            println!(rt; "{call}: no answer: WRONG")?;
+fn log(rt: &HostRuntime, all: &[Expected], answers: &[Result<Answer, Refusal>]) -> io::Result<()> {
+    let mut answers = answers.iter();
+    for expected in all {
+        let call = expected.call;
+        match answers.next() {
+            Some(answer) => {
+                let number = number_of(answer);
+                let verdict = if number == expected.number {
+                    "ok"
+                } else {
+                    "WRONG"
+                };
+                println!(rt; "{call}: {number}: {verdict}")?;
+            }
+            None => println!(rt; "{call}: no answer: WRONG")?,
         }
     }
     Ok(())

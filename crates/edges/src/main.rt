@@ -6,13 +6,12 @@ mod examples;
 
 ghost use Rattle.std.specs.Prelude.{◌≡◌, cond, length, codes};
 ghost use Rattle.search.specs.Answers.{answer};
-ghost use Rattle.search.specs.Rule.{asked};
 ghost use Rattle.edges.specs.Tells.{Tells};
 
 use bookings::show_bookings;
 use examples::{examples, joined};
 use kinds::{Budget, BudgetUse, Clock, ClockUse, DuctUse, Ducts, Kind, Pair, PairUse};
-use search::{Label, Link, route_to, search};
+use search::{Label, Link, Query, SearchFault, route_to, search};
 use std::{fmt, io};
 
 type DelayUse = PairUse<BudgetUse, BudgetUse>;
@@ -24,33 +23,26 @@ const MOST_PLACES: usize = 8;
 const MOST_HOPS: usize = 4;
 
 #[derive(Clone, Copy, PartialEq, Eq)]
-enum Answer {
-    Route {
-        figure: u32,
-        hops: u16,
-        labels: usize,
-        links: [u16; MOST_HOPS],
-    },
-    Refused(u16),
+struct Route {
+    figure: u32,
+    hops: u16,
+    labels: usize,
+    links: [u16; MOST_HOPS],
 }
 
-impl fmt::Display for Answer {
+impl fmt::Display for Route {
     fn fmt<W: fmt::Write>(&self, f: &mut fmt::Formatter<W>) -> fmt::Result {
-        match self {
-            Answer::Refused(number) => write!(f, "refused with {number}"),
-            Answer::Route {
-                figure,
-                hops,
-                labels,
-                links,
-            } => {
-                write!(f, "figure {figure}, hops {hops}, labels {labels}, links [")?;
-                for link in links.iter().take(usize::from(*hops)) {
-                    write!(f, " {link}")?;
-                }
-                write!(f, " ]")
-            }
+        let Route {
+            figure,
+            hops,
+            labels,
+            links,
+        } = self;
+        write!(f, "figure {figure}, hops {hops}, labels {labels}, links [")?;
+        for link in links.iter().take(usize::from(*hops)) {
+            write!(f, " {link}")?;
         }
+        write!(f, " ]")
     }
 }
 
@@ -60,32 +52,24 @@ struct Case {
     target: u16,
     hop_limit: u16,
     places: usize,
-    expected: Answer,
+    expected: Result<Route, SearchFault>,
 }
 
 fn answer_to<K: Kind>(
-    kind: &K,
-    links: &[Link<K::Use>],
-    flags: &[bool],
-    target: u16,
-    hop_limit: u16,
+    query: &Query<K>,
     labels: &mut [Label<K::State>],
-) -> Answer
-    ensures { Tells result (answer K.Kind.model (asked kind.now links.now flags.now 0 target hop_limit) (length labels.old)) }
+) -> Result<Route, SearchFault>
+    ensures { Tells result (answer K.Kind.model query.now (length labels.old)) }
 {
-    match search(kind, links, flags, 0, target, hop_limit, labels) {
-        Err(fault) => Answer::Refused(fault.number()),
-        Ok(found) => {
-            let mut route = [0; MOST_HOPS];
-            let _ = route_to(labels, found.label, &mut route);
-            Answer::Route {
-                figure: found.figure,
-                hops: found.hops,
-                labels: found.count,
-                links: route,
-            }
-        }
-    }
+    let found = search(query, labels)?;
+    let mut links = [0; MOST_HOPS];
+    let _ = route_to(labels, found.label, &mut links);
+    Ok(Route {
+        figure: found.figure,
+        hops: found.hops,
+        labels: found.count,
+        links,
+    })
 }
 
 fn verdict(is_expected: bool) -> &'static str
@@ -107,11 +91,24 @@ fn show<K: Kind>(
         let target = case.target;
         let hop_limit = case.hop_limit;
         let places = case.places.min(table.len());
-        let answer = answer_to(kind, links, flags, target, hop_limit, &mut table[0..places]);
+        let query = Query {
+            kind,
+            links,
+            flags,
+            source: 0,
+            target,
+            hop_limit,
+        };
+        let answer = answer_to(&query, &mut table[..places]);
         let verdict = verdict(answer == case.expected);
-        println!(rt;
-            "{name}, from 0 to {target}, hop limit {hop_limit}, label places {places}: {answer}: {verdict}"
-        )?;
+        print!(rt; "{name}, from 0 to {target}, hop limit {hop_limit}, label places {places}: ")?;
+        match answer {
+            Ok(route) => println!(rt; "{route}: {verdict}")?,
+            Err(fault) => {
+                let number = fault.number();
+                println!(rt; "refused with {number}: {verdict}")?;
+            }
+        }
     }
     Ok(())
 }
@@ -205,35 +202,35 @@ fn show_delayed(rt: &HostRuntime) -> io::Result<()> {
             target: 3,
             hop_limit: 4,
             places: 4,
-            expected: Answer::Refused(16),
+            expected: Err(SearchFault::Full),
         },
         Case {
             target: 3,
             hop_limit: 4,
             places: 5,
-            expected: Answer::Route {
+            expected: Ok(Route {
                 figure: 4,
                 hops: 2,
                 labels: 5,
                 links: [0, 1, 0, 0],
-            },
+            }),
         },
         Case {
             target: 3,
             hop_limit: 1,
             places: 5,
-            expected: Answer::Refused(17),
+            expected: Err(SearchFault::NoRoute),
         },
         Case {
             target: 0,
             hop_limit: 4,
             places: 1,
-            expected: Answer::Route {
+            expected: Ok(Route {
                 figure: 0,
                 hops: 0,
                 labels: 1,
                 links: [0; MOST_HOPS],
-            },
+            }),
         },
     ];
     show(
@@ -249,12 +246,12 @@ fn show_delayed(rt: &HostRuntime) -> io::Result<()> {
         target: 3,
         hop_limit: 4,
         places: 5,
-        expected: Answer::Route {
+        expected: Ok(Route {
             figure: 6,
             hops: 2,
             labels: 3,
             links: [2, 3, 0, 0],
-        },
+        }),
     }];
     show(
         rt,
@@ -270,13 +267,13 @@ fn show_delayed(rt: &HostRuntime) -> io::Result<()> {
             target: 3,
             hop_limit: 4,
             places: 1,
-            expected: Answer::Refused(17),
+            expected: Err(SearchFault::NoRoute),
         },
         Case {
             target: 3,
             hop_limit: 4,
             places: 0,
-            expected: Answer::Refused(16),
+            expected: Err(SearchFault::Full),
         },
     ];
     show(
@@ -303,18 +300,18 @@ fn show_gated(rt: &HostRuntime) -> io::Result<()> {
         target: 3,
         hop_limit: 4,
         places: MOST_PLACES,
-        expected: Answer::Route {
+        expected: Ok(Route {
             figure: 4,
             hops: 2,
             labels: 4,
             links: [2, 3, 0, 0],
-        },
+        }),
     };
     let none = Case {
         target: 3,
         hop_limit: 4,
         places: MOST_PLACES,
-        expected: Answer::Refused(17),
+        expected: Err(SearchFault::NoRoute),
     };
     let shutting = [
         gated(0, 1, 1, 99, 64),
@@ -367,9 +364,9 @@ fn show_allowance(rt: &HostRuntime) -> io::Result<()> {
     match Budget::new(9, 11) {
         Ok(_) => println!(rt; "a budget with allowance 9: made: WRONG"),
         Err(fault) => {
-            let answer = Answer::Refused(fault.number());
-            let verdict = verdict(answer == Answer::Refused(2));
-            println!(rt; "a budget with allowance 9: {answer}: {verdict}")
+            let number = fault.number();
+            let verdict = verdict(number == 2);
+            println!(rt; "a budget with allowance 9: refused with {number}: {verdict}")
         }
     }
 }

@@ -1,7 +1,7 @@
 // The calls of a net being laid.
 ghost use Rattle.std.specs.Prelude.{◌≡◌, []};
 ghost use Rattle.slice_vec.specs.Tables.{Table, table};
-ghost use Rattle.net.specs.Questions.{net_fault_number, told, no_values, one_value, unless, node_count, check_refusal, ends_refusal};
+ghost use Rattle.net.specs.Questions.{told, no_values, one_value, unless, node_count, check_refusal, ends_refusal};
 ghost use Rattle.net.specs.Calls.{add_told, add_left, withdraw_told, withdraw_left};
 ghost use Rattle.net.specs.Matching.{laid, served, Steps};
 ghost use Rattle.net.specs.declared.types.Call.TheVariants.{Add, Withdraw, Open};
@@ -11,32 +11,6 @@ use crate::types::{Laying, NetFault, Service};
 use kinds::Kind;
 use search::Link;
 use slice_vec::SliceVec;
-
-impl NetFault {
-    pub fn number(&self) -> u16
-        ensures { result ≡ net_fault_number self.now }
-    {
-        match self {
-            NetFault::NodeCount => 1,
-            NetFault::Tail => 3,
-            NetFault::Head => 4,
-            NetFault::LinkEnds => 5,
-            NetFault::LinksFull => 6,
-            NetFault::NoLink => 7,
-            NetFault::StreamZero => 8,
-            NetFault::StreamTaken => 9,
-            NetFault::BookFull => 10,
-            NetFault::Source => 11,
-            NetFault::Target => 12,
-            NetFault::StreamEnds => 13,
-            NetFault::Rate => 14,
-            NetFault::HopLimit => 15,
-            NetFault::Search(fault) => fault.number(),
-            NetFault::NoStream => 18,
-            NetFault::ListShort => 19,
-        }
-    }
-}
 
 // Puts the questions on a link's ends.
 fn check_ends<U: Copy>(nodes: u16, link: &Link<U>) -> Result<(), NetFault>

@@ -1,6 +1,7 @@
 // A net of links, the book of its streams, and the calls on both.
 #![tactic(auto)]
 
+mod fault;
 mod laying;
 mod service;
 mod shift;

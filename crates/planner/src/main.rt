@@ -4,7 +4,7 @@
 ghost use Rattle.std.specs.Prelude.{◌≡◌};
 
 use kinds::{Budget, BudgetUse, Kind, Pair, PairUse};
-use net::{Answer, Call, Request, Stream, perform};
+use net::{Answer, Call, Refusal, Request, Stream, perform};
 use search::{Label, Link};
 use std::{fmt, io};
 
@@ -19,7 +19,7 @@ type Take = PairUse<BudgetUse, BudgetUse>;
 #[derive(Drop)]
 struct Line<'a> {
     call: &'a Call<Limits, Take>,
-    answer: &'a Answer,
+    answer: &'a Result<Answer, Refusal>,
 }
 
 impl<'a> fmt::Display for Line<'a> {
@@ -46,30 +46,32 @@ impl<'a> fmt::Display for Line<'a> {
             Call::Close => write!(f, "close: ")?,
         }
         match self.answer {
-            Answer::Done => write!(f, "done"),
-            Answer::Added(number) => write!(f, "link {number}"),
-            Answer::Booked(figure, hops, labels) => {
+            Ok(Answer::Done) => write!(f, "done"),
+            Ok(Answer::Added(number)) => write!(f, "link {number}"),
+            Ok(Answer::Booked(figure, hops, labels)) => {
                 write!(f, "figure {figure}, hops {hops}, labels {labels}")
             }
-            Answer::Shown {
-                figure,
-                rate,
-                hops,
-                links,
-            } => {
+            Ok(
+                Answer::Shown {
+                    figure,
+                    rate,
+                    hops,
+                    links,
+                },
+            ) => {
                 write!(f, "figure {figure}, rate {rate}, links")?;
                 for link in links.iter().take(usize::from(*hops)) {
                     write!(f, " {link}")?;
                 }
                 Ok(())
             }
-            Answer::Loaded(load) => write!(f, "load {load}"),
-            Answer::Ended(streams) => write!(f, "ended {streams}"),
-            Answer::Refused(fault) => {
+            Ok(Answer::Loaded(load)) => write!(f, "load {load}"),
+            Ok(Answer::Ended(streams)) => write!(f, "ended {streams}"),
+            Err(Refusal::Fault(fault)) => {
                 let number = fault.number();
                 write!(f, "refused with {number}")
             }
-            Answer::NotTaken => write!(f, "not taken in this state"),
+            Err(Refusal::NotTaken) => write!(f, "not taken in this state"),
         }
     }
 }
@@ -131,13 +133,10 @@ fn book(stream: u16) -> Call<Limits, Take> {
 fn log<'x>(
     rt: &HostRuntime,
     calls: &'x [Call<Limits, Take>],
-    answers: &'x [Answer],
+    answers: &'x [Result<Answer, Refusal>],
 ) -> io::Result<()> {
-    for i in 0..calls.len().min(answers.len()) {
-        let line = Line {
-            call: &calls[i],
-            answer: &answers[i],
-        };
+    for (call, answer) in calls.iter().zip(answers.iter()) {
+        let line = Line { call, answer };
         println!(rt; "{line}")?;
     }
     Ok(())
