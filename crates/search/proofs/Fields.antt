@@ -1,15 +1,8 @@
--- Labels read field by field, and the way back written link by link. Assumes nothing.
+-- The way back written link by link. Assumes nothing.
 use Rattle.std.proofs.Common.{◌≡◌, ℕ, zero, suc, ◌-◌, ◌<◌, ◌≤◌, List, [], ◌∷◌, ◌++◌, map, length, get_or, drop, set, sym, refl, ap, ◌∙◌, ap₂, append_assoc, add-one, arith}
-use Rattle.std.proofs.lemmas.List.{drop-set, get_or-map, get_or_past, length-map, length_push}
+use Rattle.std.proofs.lemmas.List.{drop-set, length_push}
 use Rattle.search.specs.Routes.{way, route_of}
 use Rattle.search.specs.declared.label.Label.{Label}
-
-module _ {S : Type 0} (f : Label S → ℕ) (ls : List (Label S)) (n : ℕ) where
-  pub field_there : (l : Label S) → n < length ls → f (get_or ls n l) ≡ get_or (map f ls) n 0
-  field_there l lt = sym (get_or-map f ls n l 0 lt)
-
-  pub field_past : length ls ≤ n → 0 ≡ get_or (map f ls) n 0
-  field_past le = sym (get_or_past (map f ls) n 0 (omega (arith, length-map ls f)))
 
 module _ {S : Type 0} (ls : List (Label S)) where
   pub length-way : (h n : ℕ) → length (way h ls n) ≡ h
@@ -27,5 +20,5 @@ module _ {S : Type 0} (ls : List (Label S)) where
       ∙ sym (append_assoc (way left ls from) (link ∷ []) (drop (suc left) places))
       ∙ ap₂ (λ a b. (way left ls a ++ b ∷ []) ++ drop (suc left) places) f l
 
-  pub length-route : (n : ℕ) → length (route_of ls n) ≡ get_or (map (λ l. l.hops) ls) n 0
-  length-route n = length-way (get_or (map (λ l. l.hops) ls) n 0) n
+  pub length_route : (n : ℕ) → length (route_of ls n) ≡ get_or (map (λ l. l.hops) ls) n 0
+  length_route n = length-way (get_or (map (λ l. l.hops) ls) n 0) n

@@ -1,30 +1,13 @@
 -- One candidate against a list of labels. Assumes nothing.
-use Rattle.std.proofs.Common.{◌≡◌, ℕ, ◌+◌, ◌<◌, ◌≤◌, Bool, true, false, cond, not, ◌&&◌, ◌||◌, eqb, List, [], ◌∷◌, ◌++◌, length, get_or, take, drop, Some, None, sym, refl, ap, ◌∙◌, ⊎_elim, append_assoc, append-nil, arith, length-append}
+use Rattle.std.proofs.Common.{◌≡◌, ℕ, ◌+◌, ◌<◌, ◌≤◌, Bool, true, false, cond, not, ◌&&◌, eqb, List, [], ◌∷◌, ◌++◌, length, get_or, take, drop, sym, refl, ap, ◌∙◌, ⊎_elim, append_assoc, append-nil, arith, length-append}
 use Rattle.std.proofs.lemmas.List.{at_drop_more, at_drop_all, drop_more, drop_all, get_or_append_left, take-append-le}
-use Rattle.std.proofs.lemmas.Bool.{cond-true, cond-false, not-true, not-false, and_left, and_right, and_from, eq-eqb, ne_eqb, cases_lt}
+use Rattle.std.proofs.lemmas.Bool.{cond-true, and_from, eq-eqb, cases_lt}
 use Rattle.kinds.specs.Kinds.{Model}
-use Rattle.search.specs.Rule.{is_open, candidate, beats, beaten, offered, tried, tries}
+use Rattle.search.specs.Rule.{is_open, candidate, beaten, offered, tried, tries}
 use Rattle.search.specs.declared.label.Label.{Label}
 use Rattle.search.specs.declared.label.Link.{Link}
 
-module _ {K S U : Type 0} (m : Model K S U) (k : K) (c : Label S) where
-  pub beaten-drop : (ls : List (Label S)) (i : ℕ) (l : Label S) → i < length ls → l ≡ get_or ls i l → beaten m k c (drop i ls) ≡ (beats m k l c || beaten m k c (drop (i + 1) ls))
-  beaten-drop ls i l lt read =
-      at_drop_more (beaten m k c) ls i l lt ∙ ap (λ x. beats m k x c || beaten m k c (drop (i + 1) ls)) (sym read)
-
-  pub offered_dropped : (ls : List (Label S)) → not (m.within k c.state && not (beaten m k c ls)) ≡ true → offered m k c ls ≡ ls
-  offered_dropped ls h = cond-false _ _ _ (not-true _ h)
-
-  pub offered_kept : (ls : List (Label S)) → not (m.within k c.state && not (beaten m k c ls)) ≡ false → offered m k c ls ≡ ls ++ c ∷ []
-  offered_kept ls h = cond-true _ _ _ (not-false _ h)
-
 module _ {K S U : Type 0} (m : Model K S U) (k : K) (flags : List Bool) (n : ℕ) (l : Label S) (i : ℕ) (link : Link U) (ls : List (Label S)) where
-  pub tried_shut : is_open flags i ≡ false → tried m k flags n l i link ls ≡ ls
-  tried_shut e = cond-false _ _ _ (and_left (is_open flags i) (eqb link.tail l.node) e)
-
-  pub tried_elsewhere : (link.tail ≡ l.node → ⊥) → tried m k flags n l i link ls ≡ ls
-  tried_elsewhere h = cond-false _ _ _ (and_right (is_open flags i) (eqb link.tail l.node) (ne_eqb _ _ h))
-
   pub tried_over : is_open flags i ≡ true → link.tail ≡ l.node → tried m k flags n l i link ls ≡ offered m k (candidate m k n l i link) ls
   tried_over e h = cond-true _ _ _ (and_from (is_open flags i) (eqb link.tail l.node) e (eq-eqb _ _ h))
 
@@ -75,15 +58,6 @@ module _ {K S U : Type 0} (m : Model K S U) (k : K) where
   pub tries-all : (flags : List Bool) (n : ℕ) (l : Label S) (links : List (Link U)) (i : ℕ) (ls : List (Label S)) → length links ≤ i → tries m k flags n l i (drop i links) ls ≡ ls
   unfolding tries
   tries-all flags n l links i ls le = at_drop_all (λ rest. tries m k flags n l i rest ls) links i le
-
--- what `open_number` says of a link
-pub number_some : (b : Bool) (i j : ℕ) → Some j ≡ cond b (Some i) None → (b ≡ true) × (j ≡ i)
-number_some true i j e = (refl, cc)
-number_some false i j e = let z : ◌≡◌ {A = ℕ} 0 1 = cc in absurd (omega arith)
-
-pub number_none : (b : Bool) (i : ℕ) → None ≡ cond b (Some i) None → b ≡ false
-number_none true i e = let z : ◌≡◌ {A = ℕ} 0 1 = cc in absurd (omega arith)
-number_none false i e = refl
 
 -- what is left of a list from place i on, taken apart
 pub drop_view : {X : Type 0} (all : List X) (i : ℕ) (x : X) (rest : List X) → x ∷ rest ≡ drop i all → (i < length all) × (x ≡ get_or all i x) × (rest ≡ drop (i + 1) all)

@@ -1,6 +1,6 @@
 -- Labels in a table of so many places. Assumes nothing.
 use Rattle.std.proofs.Common.{◌≡◌, ℕ, ◌+◌, ◌-◌, ◌<◌, ◌≤◌, min, cond, leb, List, [], ◌∷◌, ◌++◌, length, take, drop, set, Ok, Err, Result, sym, refl, ap, ◌∙◌, subst, ap₂, ⊎_elim, arith, length-append, length-drop}
-use Rattle.std.proofs.lemmas.List.{take_all, take-append-le, length-take, length-take-le, length_push, drop-drop, take_at, drop_at}
+use Rattle.std.proofs.lemmas.List.{length-take, length-take-le, length_push, drop-drop, take_at, drop_at}
 use Rattle.std.proofs.lemmas.Bool.{cond-true, cond-false, le-leb, lt-leb, cases_lt}
 use Rattle.slice_vec.specs.Tables.{stored}
 use Rattle.slice_vec.proofs.Tables.{stored_fits, stored_full, stored_none, stored_one}
@@ -100,7 +100,7 @@ stores_on ls more old mid new answer h grows then =
         let split : i + (n - i) ≡ n = omega arith in
         ap (λ j. drop j xs) (sym split) ∙ sym (drop-drop (n - i) i xs) ∙ ap (drop (n - i)) e ∙ drop-drop (n - i) i ys ∙ ap (λ j. drop j ys) split
 
--- a label put in the first free place, and one that finds none
+-- a label put in the first free place
 module _ {S : Type 0} (l new : Labels S) (x : Label S) where
   pub push_one : l.count < length l.places.now → new.places.ghost_name ≡ l.places.ghost_name → new.count ≡ l.count + 1 → new.places.now ≡ set l.places.now l.count x → Stores (held l ++ x ∷ []) l (Ok tt) new
   push_one lt lent count is =
@@ -111,16 +111,4 @@ module _ {S : Type 0} (l new : Labels S) (x : Label S) where
         answer_is = sym (placed_fits l.places.now (held l ++ x ∷ []) (omega arith));
         count_is = count ∙ omega arith;
         places_are = is ∙ stored_one l.places.now l.count x lt;
-      }
-
-  pub push_over : length l.places.now ≤ l.count → Stores (held l ++ x ∷ []) l (Err Full) l
-  push_over ge =
-      let long = length_push (held l) x in
-      let front = length-take-le l.count l.places.now l.within in
-      let whole : held l ≡ l.places.now = take_all l.count l.places.now ge in
-      record {
-        lent = refl;
-        answer_is = sym (placed_full l.places.now (held l ++ x ∷ []) (omega arith));
-        count_is = omega (arith, l.within);
-        places_are = sym (stored_full l.places.now (held l ++ x ∷ []) (omega arith) ∙ ap (λ ls. take (length l.places.now) (ls ++ x ∷ [])) whole ∙ take-append-le (length l.places.now) l.places.now (x ∷ []) (omega arith) ∙ take_all (length l.places.now) l.places.now (omega arith));
       }

@@ -1,5 +1,5 @@
 -- The links tried one after another, over a table. Assumes nothing.
-use Rattle.std.proofs.Common.{◌≡◌, ℕ, ◌+◌, ◌<◌, ◌≤◌, Bool, List, length, get_or, drop, Ok, Err, sym, refl, ap, ◌∙◌}
+use Rattle.std.proofs.Common.{◌≡◌, ℕ, ◌+◌, ◌<◌, ◌≤◌, Bool, List, length, get_or, drop, Ok, Err, sym, ap, ◌∙◌}
 use Rattle.kinds.specs.Kinds.{Model}
 use Rattle.search.specs.Labels.{held, Stores}
 use Rattle.search.specs.Rule.{tried, tries}
@@ -8,7 +8,7 @@ use Rattle.search.specs.declared.label.Label.{Label}
 use Rattle.search.specs.declared.label.Labels.{Labels}
 use Rattle.search.specs.declared.label.Link.{Link}
 use Rattle.search.proofs.Offers.{tried_grows, tries_grows, tries_more, tries-all}
-use Rattle.search.proofs.Storing.{held_is, stores_at, stores_none, stores_more, stores_on}
+use Rattle.search.proofs.Storing.{held_is, stores_at, stores_more, stores_on}
 
 -- the links below i have been tried for label n, which is l: the list was `old` before, and is `now`
 pub record Trying {K S U : Type 0} (m : Model K S U) (k : K) (flags : List Bool) (links : List (Link U)) (n : ℕ) (l : Label S) (old : Labels S) (i : ℕ) (now : Labels S) : Type 0 where
@@ -16,9 +16,6 @@ pub record Trying {K S U : Type 0} (m : Model K S U) (k : K) (flags : List Bool)
   pub left : tries m k flags n l i (drop i links) (held now) ≡ tries m k flags n l 0 links (held old)
 
 module _ {K S U : Type 0} (m : Model K S U) (k : K) (flags : List Bool) (links : List (Link U)) (n : ℕ) (l : Label S) (old : Labels S) where
-  pub trying_none : Trying m k flags links n l old 0 old
-  trying_none = record { stores = stores_none old; left = refl }
-
   module _ (i : ℕ) (now : Labels S) (h : Trying m k flags links n l old i now) where
     module _ (link : Link U) (within : i < length links) (read : link ≡ get_or links i link) (next : Labels S) where
       next_labels : List (Label S)

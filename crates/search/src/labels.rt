@@ -1,5 +1,5 @@
 // The labels of a search, made one after another in a lent table.
-ghost use Rattle.std.specs.Prelude.{◌≡◌, [], ◌∷◌, ◌++◌};
+ghost use Rattle.std.specs.Prelude.{◌≡◌, [], ◌∷◌, ◌++◌, length, nat_le};
 ghost use Rattle.search.specs.Labels.{held, Stores};
 
 use crate::answer::SearchFault;
@@ -20,10 +20,16 @@ impl<'a, S: Copy> Labels<'a, S> {
         &self.places[..self.count]
     }
 
+    fn is_full(&self) -> bool
+        ensures { result ≡ nat_le (length self.now.places.now) self.now.count }
+    {
+        self.count >= self.places.len()
+    }
+
     pub fn push(&mut self, label: Label<S>) -> Result<(), SearchFault>
         ensures { Stores (held self.old ++ label ∷ []) self.old result self.new }
     {
-        if self.count >= self.places.len() {
+        if self.is_full() {
             return Err(SearchFault::Full);
         }
         self.places[self.count] = label;

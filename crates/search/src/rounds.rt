@@ -1,5 +1,6 @@
 // Makes the labels of a search, round by round.
 ghost use Rattle.std.specs.Prelude.{◌≡◌, ◌++◌, false, not, ◌&&◌, if◌then◌else◌, Some, None, slice_index_or};
+ghost use Rattle.std.specs.List.{list_any};
 ghost use Rattle.search.specs.Labels.{held, Stores};
 ghost use Rattle.search.specs.Rule.{is_open, candidate, beats, beaten, offered, first, tried, tries, turn, made};
 
@@ -8,18 +9,12 @@ use crate::label::{Label, Labels, Link, Taken};
 use crate::query::Query;
 use kinds::Kind;
 
-fn is_set(flags: &[bool], i: usize) -> bool
-    ensures { result ≡ slice_index_or flags.now i false }
-{
-    i < flags.len() && flags[i]
-}
-
 // The number of a link that is open.
 fn open_number(flags: &[bool], i: usize) -> Option<u16>
     ensures { result ≡ (if is_open flags.now i then Some i else None) }
 {
-    if i < 65536 && is_set(flags, i) {
-        Some(i as u16)
+    if *flags.get(i)? {
+        u16::try_from(i).ok()
     } else {
         None
     }
@@ -32,14 +27,9 @@ fn does_beat<K: Kind>(kind: &K, other: &Label<K::State>, label: &Label<K::State>
 }
 
 fn is_beaten<K: Kind>(kind: &K, label: &Label<K::State>, labels: &[Label<K::State>]) -> bool
-    ensures { result ≡ beaten K.Kind.model kind.now label.now labels.now }
+    ensures { result ≡ list_any (λ other. beats K.Kind.model kind.now other label.now) labels.now }
 {
-    for other in labels {
-        if does_beat(kind, other, label) {
-            return true;
-        }
-    }
-    false
+    labels.iter().any(|other| does_beat(kind, other, label))
 }
 
 // Whether a label is not within, or is beaten by one of the labels.
