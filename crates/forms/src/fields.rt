@@ -7,7 +7,7 @@ ghost use Rattle.forms.specs.Forms.{numbers as numbers_read, one_number, no_numb
 ghost use Rattle.forms.specs.Reads.{SameLine};
 
 use crate::fault::LineFault;
-use reader::{NumbersFault, Reader};
+use reader::{Field, NumbersFault, Reader};
 
 // The bytes of the next field; none where no field is left.
 pub fn first_field<'a>(reader: &mut Reader<'a>) -> &'a [u8]
@@ -15,10 +15,7 @@ pub fn first_field<'a>(reader: &mut Reader<'a>) -> &'a [u8]
     ensures rest { fields_left reader.new ≡ after_first (fields_left reader.old) }
     ensures line { SameLine reader.old reader.new }
 {
-    match reader.next_field() {
-        Some(field) => field.bytes(),
-        None => b"",
-    }
+    reader.next_field().map_or(b"", Field::bytes)
 }
 
 // The numbers after the order: one for each of `most`, and at most that large.
@@ -32,11 +29,10 @@ pub fn numbers<const N: usize>(
     ensures small { IfOk result (λ ns. (i : ℕ) → i < N → slice_index ns i ≤ slice_index most.entry i) }
     ensures line { SameLine reader.old reader.new }
 {
-    match reader.next_numbers(most) {
-        Ok(found) => Ok(found),
-        Err(NumbersFault::Bad(place)) => Err(LineFault::BadField(place + 2)),
-        Err(_) => Err(LineFault::FieldCount),
-    }
+    reader.next_numbers(most).map_err(|fault| match fault {
+        NumbersFault::Bad(place) => LineFault::BadField(place + 2),
+        NumbersFault::Missing(_) | NumbersFault::Surplus => LineFault::FieldCount,
+    })
 }
 
 // One number of 16 bits.
