@@ -18,7 +18,7 @@ use Rattle.reader.specs.declared.NumbersFault.TheVariants.{Missing, Surplus, Bad
 use Rattle.search.specs.declared.Link.{Link}
 use Rattle.forms.specs.Faults.{Blame}
 use Rattle.forms.specs.Orders.{order_of, checked}
-use Rattle.forms.specs.Values.{top16, top32, at, plain_use, gated_use, plain_kind, gated_kind, request_of}
+use Rattle.forms.specs.Values.{top16, top32, at, plain_use, gated_use, plain_kind, gated_kind, linked, request_of}
 use Rattle.forms.specs.declared.order.LayOrder.TheVariants as lay
 use Rattle.forms.specs.declared.order.Order.{Order}
 use Rattle.forms.specs.declared.order.Order.TheVariants as order
@@ -66,7 +66,7 @@ no_number fs = then (numbers [] fs) (λ _. Ok tt)
 
 module _ {K U : Type 0} (form : Form K U) where
   abbrev pub link_of : List ℕ → Link U
-  link_of ns = record { tail = at ns 0; head = at ns 1; capacity = at ns 2; taken = form.use_of ns }
+  link_of ns = linked ns (form.use_of ns)
 
   abbrev pub link_widths : List ℕ
   link_widths = top16 ∷ top16 ∷ top32 ∷ form.link_tops

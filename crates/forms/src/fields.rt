@@ -9,6 +9,11 @@ ghost use Rattle.forms.specs.Reads.{SameLine};
 use crate::fault::LineFault;
 use reader::{Field, NumbersFault, Reader};
 
+// The largest numbers of 16 and of 32 bits.
+pub const TOP16: u32 = 65_535;
+
+pub const TOP32: u32 = u32::MAX;
+
 // The bytes of the next field; none where no field is left.
 pub fn first_field<'a>(reader: &mut Reader<'a>) -> &'a [u8]
     ensures value { result.now ≡ first_of (fields_left reader.old) }
@@ -40,7 +45,7 @@ pub fn number(reader: &mut Reader<'_>) -> Result<u16, LineFault>
     ensures told { read_as result ≡ one_number (fields_left reader.old) }
     ensures line { SameLine reader.old reader.new }
 {
-    let [number] = numbers(reader, [65535])?;
+    let [number] = numbers(reader, [TOP16])?;
     Ok(number as u16)
 }
 

@@ -6,7 +6,7 @@ ghost use Rattle.forms.specs.Nets.{site_name, net_of, net_read, net_fields, net_
 ghost use Rattle.forms.specs.Reads.{SameLine};
 
 use crate::fault::LineFault;
-use crate::fields::first_field;
+use crate::fields::{TOP16, first_field};
 use crate::order::{Order, first_order};
 use kinds::Budget;
 use net::Laying;
@@ -65,7 +65,7 @@ fn read_net_fields(reader: &mut Reader<'_>) -> Result<NetOrder, LineFault>
     ensures line { SameLine reader.old reader.new }
 {
     let name = SiteName::of(first_field(reader));
-    net_by(name, reader.next_numbers([65535]))
+    net_by(name, reader.next_numbers([TOP16]))
 }
 
 // What a line asks while no net exists.
