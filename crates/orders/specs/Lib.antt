@@ -1,4 +1,5 @@
 pub mod Desk
+pub mod Faults
 pub mod Files
 pub mod Finds
 pub mod Lines

@@ -1,15 +1,29 @@
 // What can be wrong with a file.
-ghost use Rattle.std.specs.Prelude.{◌≡◌};
+ghost use Rattle.std.specs.Prelude.{◌≡◌, Some};
+ghost use Rattle.orders.specs.Faults.{message};
 ghost use Rattle.orders.specs.declared.fault.AnswerFault.TheVariants.{NoMemory};
 
 use std::alloc::{AllocError, AllocFailed};
+use std::error::Error;
 use std::fmt;
 
 // Why a file gets no answers.
-#[derive(Clone, Copy, Debug)]
+#[derive(Clone, Copy, Debug, PartialEq, Eq)]
 pub enum AnswerFault {
     NoMemory,
 }
+
+impl fmt::Display for AnswerFault {
+    ghost output = { λ f. Some (message f) };
+
+    fn fmt<W: fmt::Write>(&self, f: &mut fmt::Formatter<W>) -> fmt::Result {
+        match self {
+            AnswerFault::NoMemory => write!(f, "no memory"),
+        }
+    }
+}
+
+impl Error for AnswerFault {}
 
 impl From<AllocError> for AnswerFault {
     ghost from_gives = { λ _ r. r ≡ NoMemory };

@@ -59,28 +59,14 @@ fn answer_lines(heap: Global, text: &[u8]) -> Result<String, AnswerFault>
     Ok(out)
 }
 
-fn fits(text: &[u8]) -> bool
-    ensures { result ≡ nat_le (length text.now) most }
-{
-    text.len() <= MOST
-}
-
-fn refuse_file(heap: Global) -> Result<String, AnswerFault>
-    ensures { IfOk result (λ out. string_bytes out ≡ too_long) }
-{
-    let mut out = String::new(heap);
-    out.push_str("0,refused,20,0\n")?;
-    Ok(out)
-}
-
 // The answers to an order file. The only fault is that there is no memory.
 pub fn answer_file(heap: Global, text: &[u8]) -> Result<String, AnswerFault>
     ensures answers { IfOk result (λ out. string_bytes out ≡ answers_of text.now) }
     ensures laws { OnOk result (LawsOfFile text.now) }
 {
-    if fits(text) {
+    if text.len() <= MOST {
         answer_lines(heap, text)
     } else {
-        refuse_file(heap)
+        Ok(String::from_str(heap, "0,refused,20,0\n")?)
     }
 }

@@ -2,7 +2,7 @@
 ghost use Rattle.std.specs.Prelude.{◌≡◌, ◌+◌, false, [], ◌∷◌, ◌++◌, map, IfOk, OnOk};
 ghost use Rattle.reader.specs.Steps.{lines_left, line_number};
 ghost use Rattle.forms.specs.Faults.{read_as};
-ghost use Rattle.orders.specs.Passes.{entry_of, blame_some, refusal_in, serving_after, serving_by, call_in, reads, calls_in, entries};
+ghost use Rattle.orders.specs.Passes.{entry_of, blame_some, refusal_in, serving_by, call_in, reads, calls_in, entries};
 
 use crate::fault::AnswerFault;
 use forms::{LineFault, SiteKind, read_line};
@@ -24,23 +24,14 @@ pub struct Orders<K: Copy, U: Copy> {
     pub lines: Vec<Line>,
 }
 
-fn state_after<K: Copy, U: Copy>(call: &Call<K, U>, serving: bool) -> bool
-    ensures { result ≡ serving_after call.now serving }
-{
-    match call {
-        Call::Open => true,
-        Call::Close => false,
-        _ => serving,
-    }
-}
-
 // Whether the net is in service after a line.
 fn state_by<K: Copy, U: Copy>(read: &Result<Call<K, U>, LineFault>, serving: bool) -> bool
     ensures { result ≡ serving_by (read_as read.now) serving }
 {
     match read {
-        Ok(call) => state_after(call, serving),
-        Err(_) => serving,
+        Ok(Call::Open) => true,
+        Ok(Call::Close) => false,
+        _ => serving,
     }
 }
 

@@ -61,17 +61,6 @@ fn write_lines(out: &mut String, lines: &[Line], answers: &[Answer]) -> Result<(
     Ok(())
 }
 
-// A table of so many places.
-fn filled<T: Copy>(heap: Global, value: T, places: usize) -> Result<Vec<T>, AnswerFault>
-    ensures { IfOk result (λ v. length v.items ≡ places) }
-{
-    let mut table = Vec::new(heap);
-    for _ in 0..places {
-        table.push(value)?;
-    }
-    Ok(table)
-}
-
 // Performs the calls on the tables that every site has.
 fn perform_all<K: SiteKind>(
     heap: Global,
@@ -102,9 +91,9 @@ fn perform_all<K: SiteKind>(
         from: 0,
         link: 0,
     };
-    let mut links = filled(heap, link, LINK_PLACES)?;
-    let mut streams = filled(heap, stream, STREAM_PLACES)?;
-    let mut labels = filled(heap, label, LABEL_PLACES)?;
+    let mut links = vec![in heap; link; LINK_PLACES]?;
+    let mut streams = vec![in heap; stream; STREAM_PLACES]?;
+    let mut labels = vec![in heap; label; LABEL_PLACES]?;
     let Shift { answers, .. } = perform(heap, nodes, &mut links, &mut streams, &mut labels, calls)?;
     Ok(answers)
 }
