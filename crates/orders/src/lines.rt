@@ -17,7 +17,7 @@ pub struct Line {
     pub refusal: Option<LineFault>,
 }
 
-// What the lines of a site ask.
+// What the lines of a site ask. The calls lie apart from the lines, since they are performed as one slice.
 #[derive(Drop)]
 pub struct Orders<K: Copy, U: Copy> {
     pub calls: Vec<Call<K, U>>,
@@ -46,14 +46,6 @@ impl<K: Copy, U: Copy> Orders<K, U> {
         }
     }
 
-    fn add_line(&mut self, number: usize, refusal: Option<LineFault>) -> Result<(), AnswerFault>
-        ensures calls { self.new.calls.items ≡ self.old.calls.items }
-        ensures lines { OnOk result (map entry_of self.new.lines.items ≡ map entry_of self.old.lines.items ++ (number, blame_some refusal) ∷ []) }
-    {
-        self.lines.push(Line { number, refusal })?;
-        Ok(())
-    }
-
     // One line more.
     fn note(
         &mut self,
@@ -63,13 +55,15 @@ impl<K: Copy, U: Copy> Orders<K, U> {
         ensures calls { OnOk result (self.new.calls.items ≡ self.old.calls.items ++ call_in (read_as read)) }
         ensures lines { OnOk result (map entry_of self.new.lines.items ≡ map entry_of self.old.lines.items ++ (number, refusal_in (read_as read)) ∷ []) }
     {
-        match read {
+        let refusal = match read {
             Ok(call) => {
                 self.calls.push(call)?;
-                self.add_line(number, None)
+                None
             }
-            Err(fault) => self.add_line(number, Some(fault)),
-        }
+            Err(fault) => Some(fault),
+        };
+        self.lines.push(Line { number, refusal })?;
+        Ok(())
     }
 }
 

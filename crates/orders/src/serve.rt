@@ -1,5 +1,6 @@
 // A site whose net exists: its lines to calls, the calls performed, their answers to lines.
 ghost use Rattle.std.specs.Prelude.{◌≡◌, ◌+◌, [], map, length, drop, IfOk, string_bytes, OnOk};
+ghost use Rattle.std.specs.Slice.Iter.{iter_rest};
 ghost use Rattle.net.specs.Laws.{PromiseOfRun};
 ghost use Rattle.net.specs.Ledger.{answers, begun};
 ghost use Rattle.net.specs.Performed.{told_of};
@@ -19,34 +20,23 @@ use net::{Answer, Call, Shift, Stream, perform};
 use reader::Reader;
 use search::{Label, Link};
 use std::alloc::Global;
+use std::slice::Iter;
 
 const LINK_PLACES: usize = 512;
 
 const STREAM_PLACES: usize = 64;
 
-// Writes the answer to a line, and gives the place of the next call's answer.
-fn write_line(
-    out: &mut String,
-    line: &Line,
-    answers: &[Answer],
-    next: usize,
-) -> Result<usize, AnswerFault>
-    ensures written { Written (string_bytes out.old) (entry_text (entry_of line.now) (map told_of (drop next answers.now))) result (string_bytes out.new) }
-    ensures next { IfOk result (λ n. map told_of (drop n answers.now) ≡ told_left (entry_of line.now) (map told_of (drop next answers.now))) }
+// Writes the answer to a line: a line that is not refused takes that to the next call.
+fn write_line(out: &mut String, line: &Line, answers: &mut Iter<'_, Answer>) -> Result<(), AnswerFault>
+    ensures written { Written (string_bytes out.old) (entry_text (entry_of line.now) (map told_of (iter_rest answers.old))) result (string_bytes out.new) }
+    ensures left { map told_of (iter_rest answers.new) ≡ told_left (entry_of line.now) (map told_of (iter_rest answers.old)) }
 {
-    match &line.refusal {
-        Some(fault) => {
-            write_fault(out, line.number, fault)?;
-            Ok(next)
-        }
-        None => {
-            if next < answers.len() {
-                write_answer(out, line.number, &answers[next])?;
-                Ok(next + 1)
-            } else {
-                Ok(next)
-            }
-        }
+    if let Some(fault) = &line.refusal {
+        return write_fault(out, line.number, fault);
+    }
+    match answers.next() {
+        Some(answer) => write_answer(out, line.number, answer),
+        None => Ok(()),
     }
 }
 
@@ -54,9 +44,9 @@ fn write_line(
 fn write_lines(out: &mut String, lines: &[Line], answers: &[Answer]) -> Result<(), AnswerFault>
     ensures { Written (string_bytes out.old) (entry_texts (map entry_of lines.now) (map told_of answers.now)) result (string_bytes out.new) }
 {
-    let mut next = 0;
+    let mut answers = answers.iter();
     for line in lines {
-        next = write_line(out, line, answers, next)?;
+        write_line(out, line, &mut answers)?;
     }
     Ok(())
 }
