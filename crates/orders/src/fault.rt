@@ -40,12 +40,3 @@ impl<T: Drop> From<AllocFailed<T>> for AnswerFault {
         AnswerFault::NoMemory
     }
 }
-
-// A text takes all that is written to it while there is memory.
-impl From<fmt::Error> for AnswerFault {
-    ghost from_gives = { λ _ r. r ≡ NoMemory };
-
-    fn from(_error: fmt::Error) -> AnswerFault {
-        AnswerFault::NoMemory
-    }
-}

@@ -27,7 +27,11 @@ const LINK_PLACES: usize = 512;
 const STREAM_PLACES: usize = 64;
 
 // Writes the answer to a line: a line that is not refused takes that to the next call.
-fn write_line(out: &mut String, line: &Line, answers: &mut Iter<'_, Answer>) -> Result<(), AnswerFault>
+fn write_line(
+    out: &mut String,
+    line: &Line,
+    answers: &mut Iter<'_, Answer>,
+) -> Result<(), AnswerFault>
     ensures written { Written (string_bytes out.old) (entry_text (entry_of line.now) (map told_of (iter_rest answers.old))) result (string_bytes out.new) }
     ensures left { map told_of (iter_rest answers.new) ≡ told_left (entry_of line.now) (map told_of (iter_rest answers.old)) }
 {
