@@ -1,9 +1,8 @@
 // An order file: its bytes to the bytes of its answers.
-ghost use Rattle.std.specs.Prelude.{◌≡◌, [], length, IfOk, string_bytes, OnOk, nat_le};
-ghost use Rattle.reader.specs.Split.{lines};
+ghost use Rattle.std.specs.Prelude.{◌≡◌, ◌≤◌, length, IfOk, string_bytes, OnOk};
 ghost use Rattle.reader.specs.Steps.{lines_left, line_number};
-ghost use Rattle.orders.specs.Desk.{no_net, new_net};
-ghost use Rattle.orders.specs.Files.{most, too_long, answers_of, LawsOfFile};
+ghost use Rattle.orders.specs.Desk.{new_net};
+ghost use Rattle.orders.specs.Files.{most, answers_of, LawsOfFile};
 ghost use Rattle.orders.specs.Finds.{NetFound, Served};
 
 use crate::fault::AnswerFault;
@@ -49,7 +48,9 @@ fn serve_site(
 }
 
 fn answer_lines(heap: Global, text: &[u8]) -> Result<String, AnswerFault>
-    ensures { IfOk result (λ out. Served no_net 0 (lines text.now) [] (string_bytes out)) }
+    requires { length text.now ≤ most }
+    ensures answers { IfOk result (λ out. string_bytes out ≡ answers_of text.now) }
+    ensures laws { OnOk result (LawsOfFile text.now) }
 {
     let mut out = String::new(heap);
     let mut reader = Reader::new(text);
