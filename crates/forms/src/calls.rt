@@ -61,7 +61,7 @@ fn read_serving<K: SiteKind>(
     }
 }
 
-// What a line asks of a net that is in service or being laid.
+// What a line asks of a net that is in service or being laid. The state is a bool, as a run of calls and its ledger have it.
 pub fn read_line<K: SiteKind>(
     reader: &mut Reader<'_>,
     serving: bool,

@@ -23,7 +23,8 @@ pub fn first_field<'a>(reader: &mut Reader<'a>) -> &'a [u8]
     reader.next_field().map_or(b"", Field::bytes)
 }
 
-// The numbers after the order: one for each of `most`, and at most that large.
+// The numbers after the order: one for each of `most`, and at most that large. Their fault has no `From`, which could not
+// know that a place is small enough to be counted on from.
 pub fn numbers<const N: usize>(
     reader: &mut Reader<'_>,
     most: [u32; N],

@@ -1,5 +1,4 @@
 pub mod Desk
-pub mod Faults
 pub mod Files
 pub mod Finds
 pub mod Lines

@@ -1,6 +1,5 @@
 // What can be wrong with a file.
-ghost use Rattle.std.specs.Prelude.{◌≡◌, Some};
-ghost use Rattle.orders.specs.Faults.{message};
+ghost use Rattle.std.specs.Prelude.{◌≡◌, Some, codes};
 ghost use Rattle.orders.specs.declared.fault.AnswerFault.TheVariants.{NoMemory};
 
 use std::alloc::{AllocError, AllocFailed};
@@ -14,7 +13,7 @@ pub enum AnswerFault {
 }
 
 impl fmt::Display for AnswerFault {
-    ghost output = { λ f. Some (message f) };
+    ghost output = { λ _. Some (codes "no memory") };
 
     fn fmt<W: fmt::Write>(&self, f: &mut fmt::Formatter<W>) -> fmt::Result {
         match self {
