@@ -2,7 +2,7 @@
 ghost use Rattle.std.specs.Prelude.{◌≡◌, Some, codes};
 ghost use Rattle.orders.specs.declared.fault.AnswerFault.TheVariants.{NoMemory};
 
-use std::alloc::{AllocError, AllocFailed};
+use std::alloc::AllocError;
 use std::error::Error;
 use std::fmt;
 
@@ -28,14 +28,6 @@ impl From<AllocError> for AnswerFault {
     ghost from_gives = { λ _ r. r ≡ NoMemory };
 
     fn from(_error: AllocError) -> AnswerFault {
-        AnswerFault::NoMemory
-    }
-}
-
-impl<T: Drop> From<AllocFailed<T>> for AnswerFault {
-    ghost from_gives = { λ _ r. r ≡ NoMemory };
-
-    fn from(_refused: AllocFailed<T>) -> AnswerFault {
         AnswerFault::NoMemory
     }
 }

@@ -11,13 +11,13 @@ use crate::write::{write_fault, write_made};
 use forms::{NetOrder, SiteName, read_net};
 use kinds::{Budget, Clock, Ducts, Pair};
 use reader::Reader;
-use std::alloc::Global;
+use std::alloc::{AllocError, Global};
 
 // The most bytes that a file may have.
 const MOST: usize = 60_000;
 
 // Answers the lines up to the one that makes a net.
-fn find_net(reader: &mut Reader<'_>, out: &mut String) -> Result<Option<NetOrder>, AnswerFault>
+fn find_net(reader: &mut Reader<'_>, out: &mut String) -> Result<Option<NetOrder>, AllocError>
     ensures { IfOk result (λ net. NetFound (line_number reader.old) (lines_left reader.old) (string_bytes out.old) net (line_number reader.new) (lines_left reader.new) (string_bytes out.new)) }
 {
     while let Some(line) = reader.next_line() {
@@ -38,7 +38,7 @@ fn serve_site(
     reader: &mut Reader<'_>,
     net: NetOrder,
     out: &mut String,
-) -> Result<(), AnswerFault>
+) -> Result<(), AllocError>
     ensures { OnOk result (Served (new_net net.site net.nodes) (line_number reader.old) (lines_left reader.old) (string_bytes out.old) (string_bytes out.new)) }
 {
     match net.site {
@@ -47,7 +47,7 @@ fn serve_site(
     }
 }
 
-fn answer_lines(heap: Global, text: &[u8]) -> Result<String, AnswerFault>
+fn answer_lines(heap: Global, text: &[u8]) -> Result<String, AllocError>
     requires { length text.now ≤ most }
     ensures answers { IfOk result (λ out. string_bytes out ≡ answers_of text.now) }
     ensures laws { OnOk result (LawsOfFile text.now) }
@@ -66,7 +66,7 @@ pub fn answer_file(heap: Global, text: &[u8]) -> Result<String, AnswerFault>
     ensures laws { OnOk result (LawsOfFile text.now) }
 {
     if text.len() <= MOST {
-        answer_lines(heap, text)
+        Ok(answer_lines(heap, text)?)
     } else {
         Ok(String::from_str(heap, "0,refused,20,0\n")?)
     }

@@ -4,11 +4,10 @@ ghost use Rattle.reader.specs.Steps.{lines_left, line_number};
 ghost use Rattle.forms.specs.Faults.{read_as};
 ghost use Rattle.orders.specs.Passes.{entry_of, blame_some, refusal_in, serving_by, call_in, reads, calls_in, entries};
 
-use crate::fault::AnswerFault;
 use forms::{LineFault, SiteKind, read_line};
 use net::Call;
 use reader::Reader;
-use std::alloc::Global;
+use std::alloc::{AllocError, Global};
 
 // A line that was read: its number, and why it is refused; a line that is not makes the next call.
 #[derive(Drop)]
@@ -47,11 +46,7 @@ impl<K: Copy, U: Copy> Orders<K, U> {
     }
 
     // One line more.
-    fn note(
-        &mut self,
-        number: usize,
-        read: Result<Call<K, U>, LineFault>,
-    ) -> Result<(), AnswerFault>
+    fn note(&mut self, number: usize, read: Result<Call<K, U>, LineFault>) -> Result<(), AllocError>
         ensures calls { OnOk result (self.new.calls.items ≡ self.old.calls.items ++ call_in (read_as read)) }
         ensures lines { OnOk result (map entry_of self.new.lines.items ≡ map entry_of self.old.lines.items ++ (number, refusal_in (read_as read)) ∷ []) }
     {
@@ -71,7 +66,7 @@ impl<K: Copy, U: Copy> Orders<K, U> {
 pub fn read_orders<K: SiteKind>(
     heap: Global,
     reader: &mut Reader<'_>,
-) -> Result<Orders<K, K::Use>, AnswerFault>
+) -> Result<Orders<K, K::Use>, AllocError>
     ensures calls { IfOk result (λ o. o.calls.items ≡ calls_in (reads K.SiteKind.form false (lines_left reader.old))) }
     ensures lines { IfOk result (λ o. map entry_of o.lines.items ≡ entries (line_number reader.old + 1) (reads K.SiteKind.form false (lines_left reader.old))) }
 {

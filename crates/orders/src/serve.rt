@@ -11,7 +11,6 @@ ghost use Rattle.orders.specs.Lines.{Written, numbered};
 ghost use Rattle.orders.specs.Passes.{entry_of, entry_text, told_left, entry_texts};
 ghost use Rattle.orders.specs.Runs.{site_replies, site_calls};
 
-use crate::fault::AnswerFault;
 use crate::lines::{Line, read_orders};
 use crate::write::{write_answer, write_fault};
 use forms::{LABEL_PLACES, SiteKind};
@@ -19,7 +18,7 @@ use kinds::Kind;
 use net::{Answer, Call, Shift, Stream, perform};
 use reader::Reader;
 use search::{Label, Link};
-use std::alloc::Global;
+use std::alloc::{AllocError, Global};
 use std::slice::Iter;
 
 const LINK_PLACES: usize = 512;
@@ -31,7 +30,7 @@ fn write_line(
     out: &mut String,
     line: &Line,
     answers: &mut Iter<'_, Answer>,
-) -> Result<(), AnswerFault>
+) -> Result<(), AllocError>
     ensures written { Written (string_bytes out.old) (entry_text (entry_of line.now) (map told_of (iter_rest answers.old))) result (string_bytes out.new) }
     ensures left { map told_of (iter_rest answers.new) ≡ told_left (entry_of line.now) (map told_of (iter_rest answers.old)) }
 {
@@ -45,7 +44,7 @@ fn write_line(
 }
 
 // Writes the answers to the lines.
-fn write_lines(out: &mut String, lines: &[Line], answers: &[Answer]) -> Result<(), AnswerFault>
+fn write_lines(out: &mut String, lines: &[Line], answers: &[Answer]) -> Result<(), AllocError>
     ensures { Written (string_bytes out.old) (entry_texts (map entry_of lines.now) (map told_of answers.now)) result (string_bytes out.new) }
 {
     let mut answers = answers.iter();
@@ -60,7 +59,7 @@ fn perform_all<K: SiteKind>(
     heap: Global,
     nodes: u16,
     calls: &[Call<K, K::Use>],
-) -> Result<Vec<Answer>, AnswerFault>
+) -> Result<Vec<Answer>, AllocError>
     ensures answered { IfOk result (λ v. map told_of v.items ≡ answers K.Kind.model (supplied nodes) begun calls.now) }
     ensures laws { OnOk result (PromiseOfRun K.Kind.model (supplied nodes) calls.now) }
 {
@@ -98,7 +97,7 @@ pub fn serve<K: SiteKind>(
     reader: &mut Reader<'_>,
     nodes: u16,
     out: &mut String,
-) -> Result<(), AnswerFault>
+) -> Result<(), AllocError>
     ensures written { Written (string_bytes out.old) (with_feeds (numbered (line_number reader.old + 1) (site_replies K.Kind.model K.SiteKind.form (supplied nodes) [] (lines_left reader.old)))) result (string_bytes out.new) }
     ensures laws { OnOk result (PromiseOfRun K.Kind.model (supplied nodes) (site_calls K.Kind.model K.SiteKind.form (supplied nodes) [] (lines_left reader.old))) }
 {

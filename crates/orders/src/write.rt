@@ -5,35 +5,28 @@ ghost use Rattle.forms.specs.Faults.{blame_of};
 ghost use Rattle.orders.specs.Lines.{Written, listed, reply_line, accepted, refused};
 ghost use Rattle.orders.specs.Runs.{reply_of};
 
-use crate::fault::AnswerFault;
 use forms::LineFault;
 use net::Answer;
+use std::alloc::AllocError;
 use std::fmt;
 
-fn write_refusal(
-    out: &mut String,
-    line: usize,
-    number: u16,
-    field: usize,
-) -> Result<(), AnswerFault>
+fn write_refusal(out: &mut String, line: usize, number: u16, field: usize) -> Result<(), AllocError>
     ensures { Written (string_bytes out.old) (reply_line line (refused number field) ++ 10 ∷ []) result (string_bytes out.new) }
 {
-    writeln!(out, "{line},refused,{number},{field}")?;
-    Ok(())
+    writeln!(out, "{line},refused,{number},{field}")
 }
 
-pub fn write_fault(out: &mut String, line: usize, fault: &LineFault) -> Result<(), AnswerFault>
+pub fn write_fault(out: &mut String, line: usize, fault: &LineFault) -> Result<(), AllocError>
     ensures { Written (string_bytes out.old) (reply_line line (refused (blame_of fault.now).0 (blame_of fault.now).1) ++ 10 ∷ []) result (string_bytes out.new) }
 {
     write_refusal(out, line, fault.number(), fault.field())
 }
 
 // The answer to the order that made a net.
-pub fn write_made(out: &mut String, line: usize) -> Result<(), AnswerFault>
+pub fn write_made(out: &mut String, line: usize) -> Result<(), AllocError>
     ensures { Written (string_bytes out.old) (reply_line line (accepted []) ++ 10 ∷ []) result (string_bytes out.new) }
 {
-    writeln!(out, "{line},ok")?;
-    Ok(())
+    writeln!(out, "{line},ok")
 }
 
 // The links of a route, which lie at the start of sixteen places.
@@ -85,15 +78,14 @@ impl fmt::Display for Values<'_> {
     }
 }
 
-fn write_accepted(out: &mut String, line: usize, answer: &Answer) -> Result<(), AnswerFault>
+fn write_accepted(out: &mut String, line: usize, answer: &Answer) -> Result<(), AllocError>
     ensures { Written (string_bytes out.old) (reply_line line (accepted (told_of answer.now).1) ++ 10 ∷ []) result (string_bytes out.new) }
 {
     let values = Values(answer);
-    writeln!(out, "{line},ok{values}")?;
-    Ok(())
+    writeln!(out, "{line},ok{values}")
 }
 
-pub fn write_answer(out: &mut String, line: usize, answer: &Answer) -> Result<(), AnswerFault>
+pub fn write_answer(out: &mut String, line: usize, answer: &Answer) -> Result<(), AllocError>
     ensures { Written (string_bytes out.old) (reply_line line (reply_of (told_of answer.now)) ++ 10 ∷ []) result (string_bytes out.new) }
 {
     match answer {
