@@ -1,5 +1,5 @@
 -- The first piece of a split, and what follows it.
-use Rattle.std.proofs.Common.{◌≡◌, ℕ, zero, suc, ◌+◌, ◌-◌, ◌<◌, true, false, eqb, ltb, List, [], ◌∷◌, length, get_or, take, drop, Some, None, sym, refl, ap, ◌∙◌, ⊎_elim, add-one, arith, length-drop}
+use Rattle.std.proofs.Common.{◌≡◌, ℕ, zero, suc, ◌+◌, ◌-◌, ◌<◌, Bool, true, false, eqb, ltb, List, [], ◌∷◌, length, get_or, take, drop, Some, None, sym, refl, ap, ◌∙◌, ⊎_elim, add-one, arith, length-drop}
 use Rattle.std.specs.List.{between, position, position_or_len}
 use Rattle.std.proofs.lemmas.List.{take_all, drop_all, drop-drop}
 use Rattle.std.proofs.lemmas.List.Quantifiers.{position-Some}
@@ -22,16 +22,19 @@ split_some s last bs n e =
     let h = position-Some (λ b. eqb b s) bs n 0 (sym e) in
     rw add-one (split_found s last bs n h.0 h.1 h.2)
 
-before_all : (s : ℕ) (bs : List ℕ) → None ≡ position (λ b. eqb b s) bs → Before s bs (length bs)
-before_all s bs e k lt =
-    let first = position_or_len (λ b. eqb b s) bs in
+-- where no element passes, none before the end does
+pub none_passes : {X : Type 0} (p : X → Bool) (xs : List X) (k : ℕ) (d : X) → None ≡ position p xs → k < length xs → p (get_or xs k d) ≡ false
+none_passes p xs k d e lt =
     ⊎_elim
-    (λ t. absurd (none_is first (e ∙ cond-true _ _ _ t)))
-    (λ t. fails_before_first (λ b. eqb b s) bs k 0 (omega (arith, ltb-false _ _ t)))
-    (cases_Bool (ltb first (length bs)))
+    (λ t. absurd (none_is (position_or_len p xs) (e ∙ cond-true _ _ _ t)))
+    (λ t. fails_before_first p xs k d (omega (arith, ltb-false _ _ t)))
+    (cases_Bool (ltb (position_or_len p xs) (length xs)))
   where
     none_is : (n : ℕ) → None ≡ Some n → ⊥
     none_is n h = cc
+
+before_all : (s : ℕ) (bs : List ℕ) → None ≡ position (λ b. eqb b s) bs → Before s bs (length bs)
+before_all s bs e k lt = none_passes (λ b. eqb b s) bs k 0 e lt
 
 split_free : (s : ℕ) (bs : List ℕ) → Before s bs (length bs) → split s ([] ∷ []) bs ≡ bs ∷ []
 split_free s [] before = refl

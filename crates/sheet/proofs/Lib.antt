@@ -1,4 +1,4 @@
-mod LinkLines
-mod Numbers
-mod Stops
-mod Tells
+pub mod LinkLines
+pub mod Numbers
+pub mod Stops
+pub mod Tells

@@ -30,17 +30,21 @@ pub enum Fault {
     NoMemory,
 }
 
+impl Fault {
+    pub(crate) fn at(line: usize, field: usize, cause: Cause) -> Fault
+        ensures { result ≡ At line field cause }
+    {
+        Fault::At { line, field, cause }
+    }
+}
+
 // The allowance stands in the second field of the first line.
 impl From<BudgetFault> for Fault {
     ghost from_gives = { λ _ r. r ≡ At 1 2 AllowanceAboveEight };
 
     fn from(fault: BudgetFault) -> Fault {
         match fault {
-            BudgetFault::AllowanceAboveEight => Fault::At {
-                line: 1,
-                field: 2,
-                cause: Cause::AllowanceAboveEight,
-            },
+            BudgetFault::AllowanceAboveEight => Fault::at(1, 2, Cause::AllowanceAboveEight),
         }
     }
 }
