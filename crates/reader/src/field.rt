@@ -38,7 +38,7 @@ impl<'a> Field<'a> {
     }
 }
 
-// Whether a text is the word.
+// Whether a text is the word. A `match` compares with words that it names; this is for a word that the caller holds.
 pub fn same(text: &[u8], word: &[u8]) -> bool
     ensures { result ≡ bytes_eq text.now word.now }
 {

@@ -1,4 +1,3 @@
 pub mod LinkLines
 pub mod Numbers
 pub mod Stops
-pub mod Tells

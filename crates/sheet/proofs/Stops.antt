@@ -3,6 +3,7 @@ use Rattle.std.proofs.Common.{◌≡◌, ℕ, ◌+◌, ◌<◌, ◌≤◌, Bool,
 use lib.ListN.{length-map}
 use Rattle.std.specs.List.{position, zip}
 use Rattle.std.proofs.lemmas.List.Quantifiers.{position-Some}
+use Rattle.std.proofs.lemmas.List.Sums.{fold_more}
 use Rattle.std.proofs.lemmas.Slice.Zip.{length-zip, get_or-zip}
 use Rattle.std.proofs.lemmas.List.{get_or-map, get_or_append_left, get_or_push, length_push, take-map, length-take-le}
 use Rattle.std.proofs.lemmas.Bool.{cases_lt, ltb-true, lt-ltb}
@@ -26,6 +27,11 @@ use Rattle.sheet.specs.Audits.{Gate, Stop, clock_uses, duct_uses, late, StopsOf,
 -- the state of a route
 abbrev pub state_of : Pair Clock Ducts → List Gate → Stop
 state_of k us = along (pair_model clock_model ducts_model) k us
+
+pub state_more : (k : Pair Clock Ducts) (us : List Gate) (i : ℕ) (u : Gate) (s s' : Stop) → i < length us → u ≡ get_or us i u → s ≡ state_of k (take i us) → s' ≡ (pair_model clock_model ducts_model).extended k s u → s' ≡ state_of k (take (i + 1) us)
+state_more k us i u s s' inside link was next =
+    let extended = (pair_model clock_model ducts_model).extended k in
+    next ∙ ap (λ t. extended t u) was ∙ ap (extended (state_of k (take i us))) link ∙ sym (fold_more extended ((pair_model clock_model ducts_model).start k) us i u inside)
 
 -- the states after the first i links
 abbrev pub Sofar : Pair Clock Ducts → List Gate → List Stop → ℕ → Type 0

@@ -30,7 +30,6 @@ pub trait Link: Copy {
 fn link_numbers<const N: usize>(reader: &mut Reader<'_>, line: usize) -> Result<[u32; N], Fault>
     requires { N < 16 }
     ensures told { result ≡ link_line N line (fields_left reader.old) }
-    ensures listed { IfOk result (λ ns. ns ≡ map (λ i. slice_index ns i) (range_with_len 0 N)) }
     ensures small { IfOk result (λ ns. (i : ℕ) → i < N → slice_index ns i ≤ 65535) }
     ensures same { SameLine reader.old reader.new }
 {
