@@ -1,9 +1,8 @@
 // The call that a line makes on a site whose net exists.
 ghost use Rattle.std.specs.Prelude.{◌≡◌};
-ghost use Rattle.reader.specs.Steps.{fields_left};
+ghost use Rattle.reader.specs.Steps.{SameLine, fields_left};
 ghost use Rattle.forms.specs.Faults.{read_as};
 ghost use Rattle.forms.specs.Forms.{call_of, line_call};
-ghost use Rattle.forms.specs.Reads.{SameLine};
 ghost use Rattle.forms.specs.declared.order.Order.TheVariants.{Lay, Serve};
 
 use crate::fault::LineFault;

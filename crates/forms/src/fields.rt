@@ -1,27 +1,16 @@
-// The fields of a line: the first one, and the numbers after it.
+// The numbers of a line after its order.
 ghost use Rattle.std.specs.Prelude.{◌≡◌, ℕ, ◌<◌, ◌≤◌, [], length, IfOk, slice_index};
-ghost use Rattle.reader.specs.Split.{first_of, after_first};
-ghost use Rattle.reader.specs.Steps.{fields_left};
+ghost use Rattle.reader.specs.Steps.{SameLine, fields_left};
 ghost use Rattle.forms.specs.Faults.{read_as};
 ghost use Rattle.forms.specs.Forms.{numbers as numbers_read, one_number, no_number};
-ghost use Rattle.forms.specs.Reads.{SameLine};
 
 use crate::fault::LineFault;
-use reader::{Field, NumbersFault, Reader};
+use reader::{NumbersFault, Reader};
 
 // The largest numbers of 16 and of 32 bits.
 pub const TOP16: u32 = 65_535;
 
 pub const TOP32: u32 = u32::MAX;
-
-// The bytes of the next field; none where no field is left.
-pub fn first_field<'a>(reader: &mut Reader<'a>) -> &'a [u8]
-    ensures value { result.now ≡ first_of (fields_left reader.old) }
-    ensures rest { fields_left reader.new ≡ after_first (fields_left reader.old) }
-    ensures line { SameLine reader.old reader.new }
-{
-    reader.next_field().map_or(b"", Field::bytes)
-}
 
 // The numbers after the order: one for each of `most`, and at most that large. Their fault has no `From`, which could not
 // know that a place is small enough to be counted on from.

@@ -1,12 +1,11 @@
 // The order that makes a net.
 ghost use Rattle.std.specs.Prelude.{◌≡◌, ◌≤◌, [], IfOk, slice_index};
-ghost use Rattle.reader.specs.Steps.{fields_left};
+ghost use Rattle.reader.specs.Steps.{SameLine, fields_left};
 ghost use Rattle.forms.specs.Faults.{read_as};
 ghost use Rattle.forms.specs.Nets.{site_name, net_of, net_read, net_fields, net_line};
-ghost use Rattle.forms.specs.Reads.{SameLine};
 
 use crate::fault::LineFault;
-use crate::fields::{TOP16, first_field};
+use crate::fields::TOP16;
 use crate::order::{Order, first_order};
 use kinds::Budget;
 use net::Laying;
@@ -64,7 +63,7 @@ fn read_net_fields(reader: &mut Reader<'_>) -> Result<NetOrder, LineFault>
     ensures told { read_as result ≡ net_fields (fields_left reader.old) }
     ensures line { SameLine reader.old reader.new }
 {
-    let name = SiteName::of(first_field(reader));
+    let name = SiteName::of(reader.next_bytes());
     net_by(name, reader.next_numbers([TOP16]))
 }
 

@@ -1,13 +1,11 @@
 // The word that a line begins with.
 ghost use Rattle.std.specs.Prelude.{◌≡◌};
 ghost use Rattle.reader.specs.Split.{first_of, after_first};
-ghost use Rattle.reader.specs.Steps.{fields_left};
+ghost use Rattle.reader.specs.Steps.{SameLine, fields_left};
 ghost use Rattle.forms.specs.Faults.{read_as};
 ghost use Rattle.forms.specs.Orders.{order_of};
-ghost use Rattle.forms.specs.Reads.{SameLine};
 
 use crate::fault::LineFault;
-use crate::fields::first_field;
 use reader::Reader;
 
 // The orders of a net that is being laid.
@@ -61,5 +59,5 @@ pub fn first_order(reader: &mut Reader<'_>) -> Result<Order, LineFault>
     ensures rest { fields_left reader.new ≡ after_first (fields_left reader.old) }
     ensures line { SameLine reader.old reader.new }
 {
-    Order::try_from(first_field(reader))
+    Order::try_from(reader.next_bytes())
 }

@@ -1,9 +1,8 @@
 // The two kinds of site: what the lines of each tell of a link and of a booking.
 ghost use Rattle.std.specs.Prelude.{◌≡◌, ◌≤◌, slice_index};
-ghost use Rattle.reader.specs.Steps.{fields_left};
+ghost use Rattle.reader.specs.Steps.{SameLine, fields_left};
 ghost use Rattle.forms.specs.Faults.{read_as};
 ghost use Rattle.forms.specs.Forms.{Form, plain_form, gated_form, link_line, booking_line};
-ghost use Rattle.forms.specs.Reads.{SameLine};
 ghost use Rattle.forms.specs.Values.{budget_use, clock_use, clock_of, budget_of, linked, request_of};
 
 use crate::fault::LineFault;
