@@ -87,8 +87,8 @@ fn show(rt: &HostRuntime, name: &str, text: &[u8]) -> io::Result<()> {
 }
 
 fn show_all(rt: &HostRuntime, cases: &[(&str, &[u8])]) -> io::Result<()> {
-    for (name, text) in cases {
-        show(rt, *name, *text)?;
+    for &(name, text) in cases {
+        show(rt, name, text)?;
     }
     Ok(())
 }

@@ -18,9 +18,11 @@ use Rattle.reader.specs.declared.NumbersFault.TheVariants.{Missing, Surplus, Bad
 use Rattle.search.specs.declared.Link.{Link}
 use Rattle.forms.specs.Faults.{Blame}
 use Rattle.forms.specs.Orders.{order_of, checked}
-use Rattle.forms.specs.Values.{top16, top32, at, plain_use, gated_use, plain_kind, gated_kind, request_of}
+use Rattle.forms.specs.Values.{top16, top32, at, plain_use, gated_use, plain_kind, gated_kind, linked, request_of}
+use Rattle.forms.specs.declared.order.LayOrder.TheVariants as lay
 use Rattle.forms.specs.declared.order.Order.{Order}
 use Rattle.forms.specs.declared.order.Order.TheVariants as order
+use Rattle.forms.specs.declared.order.ServeOrder.TheVariants as serve
 
 -- what a link's and a booking's line have after the numbers that they have on every site, and what the numbers tell
 pub record Form (K U : Type 0) : Type 0 where
@@ -64,7 +66,7 @@ no_number fs = then (numbers [] fs) (λ _. Ok tt)
 
 module _ {K U : Type 0} (form : Form K U) where
   abbrev pub link_of : List ℕ → Link U
-  link_of ns = record { tail = at ns 0; head = at ns 1; capacity = at ns 2; taken = form.use_of ns }
+  link_of ns = linked ns (form.use_of ns)
 
   abbrev pub link_widths : List ℕ
   link_widths = top16 ∷ top16 ∷ top32 ∷ form.link_tops
@@ -85,16 +87,15 @@ module _ {K U : Type 0} (form : Form K U) where
   -- the call that an order makes, from the fields after it
   abbrev pub call_of : Order → List (List ℕ) → Result (Call K U) Blame
   call_of order.Net fs = Err (22, 0)
-  call_of order.Link fs = then (link_line fs) (λ l. Ok (Add l))
-  call_of order.Withdraw fs = then (one_number fs) (λ i. Ok (Withdraw i))
-  call_of order.Open fs = then (no_number fs) (λ _. Ok Open)
-  call_of order.Book fs = then (booking_line fs) (λ b. Ok (Book b.0 b.1 512))
-  call_of order.Release fs = then (one_number fs) (λ n. Ok (Release n))
-  call_of order.Show fs = then (one_number fs) (λ n. Ok (Show n))
-  call_of order.Load fs = then (one_number fs) (λ i. Ok (Load i))
-  call_of order.Close fs = then (no_number fs) (λ _. Ok Close)
-  call_of order.Other fs = Err (21, 0)
+  call_of (order.Lay lay.Link) fs = then (link_line fs) (λ l. Ok (Add l))
+  call_of (order.Lay lay.Withdraw) fs = then (one_number fs) (λ i. Ok (Withdraw i))
+  call_of (order.Lay lay.Open) fs = then (no_number fs) (λ _. Ok Open)
+  call_of (order.Serve serve.Book) fs = then (booking_line fs) (λ b. Ok (Book b.0 b.1 512))
+  call_of (order.Serve serve.Release) fs = then (one_number fs) (λ n. Ok (Release n))
+  call_of (order.Serve serve.Show) fs = then (one_number fs) (λ n. Ok (Show n))
+  call_of (order.Serve serve.Load) fs = then (one_number fs) (λ i. Ok (Load i))
+  call_of (order.Serve serve.Close) fs = then (no_number fs) (λ _. Ok Close)
 
   -- what a line is read as on a net that is in service, or being laid
   abbrev pub line_call : Bool → List (List ℕ) → Result (Call K U) Blame
-  line_call serving fs = then (checked serving (order_of (first_of fs))) (λ ok. call_of (order_of (first_of fs)) (after_first fs))
+  line_call serving fs = then (order_of (first_of fs)) (λ o. then (checked serving o) (λ ok. call_of o (after_first fs)))

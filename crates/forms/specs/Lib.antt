@@ -2,5 +2,4 @@ pub mod Faults
 pub mod Forms
 pub mod Nets
 pub mod Orders
-pub mod Reads
 pub mod Values

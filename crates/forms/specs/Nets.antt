@@ -2,7 +2,7 @@
 use Rattle.std.specs.Prelude.{ℕ, cond, List, [], ◌∷◌, Some, None, Ok, Err, codes, Option, Result, ◌==◌}
 use Rattle.std.specs.Str.{bytes_eq}
 use Rattle.net.specs.Questions.{node_count, check_refusal}
-use Rattle.reader.specs.Numbers.{numbers_of}
+use Rattle.reader.specs.Numbers.{numbers_of, then}
 use Rattle.reader.specs.Split.{first_of, after_first}
 use Rattle.reader.specs.declared.NumbersFault.{NumbersFault}
 use Rattle.reader.specs.declared.NumbersFault.TheVariants.{Missing, Surplus, Bad}
@@ -10,7 +10,7 @@ use Rattle.forms.specs.Faults.{Blame}
 use Rattle.forms.specs.Orders.{order_of}
 use Rattle.forms.specs.Values.{top16, at}
 use Rattle.forms.specs.declared.order.Order.{Order}
-use Rattle.forms.specs.declared.order.Order.TheVariants.{Net, Link, Withdraw, Open, Book, Release, Show, Load, Close, Other}
+use Rattle.forms.specs.declared.order.Order.TheVariants.{Net, Lay, Serve}
 use Rattle.forms.specs.declared.nets.NetOrder.{NetOrder}
 use Rattle.forms.specs.declared.nets.SiteName.{SiteName}
 use Rattle.forms.specs.declared.nets.SiteName.TheVariants.{Plain, Gated}
@@ -38,16 +38,9 @@ net_fields fs = net_read (site_name (first_of fs)) (numbers_of (top16 ∷ []) (a
 -- while no net exists, no other order is allowed
 abbrev pub net_by : Order → List (List ℕ) → Result NetOrder Blame
 net_by Net fs = net_fields fs
-net_by Link fs = Err (22, 0)
-net_by Withdraw fs = Err (22, 0)
-net_by Open fs = Err (22, 0)
-net_by Book fs = Err (22, 0)
-net_by Release fs = Err (22, 0)
-net_by Show fs = Err (22, 0)
-net_by Load fs = Err (22, 0)
-net_by Close fs = Err (22, 0)
-net_by Other fs = Err (21, 0)
+net_by (Lay order) fs = Err (22, 0)
+net_by (Serve order) fs = Err (22, 0)
 
 -- what a line is read as while no net exists
 abbrev pub net_line : List (List ℕ) → Result NetOrder Blame
-net_line fs = net_by (order_of (first_of fs)) (after_first fs)
+net_line fs = then (order_of (first_of fs)) (λ o. net_by o (after_first fs))

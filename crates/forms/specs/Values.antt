@@ -12,6 +12,7 @@ use Rattle.kinds.specs.declared.Pair.{Pair}
 use Rattle.kinds.specs.declared.PairUse.{PairUse}
 use Rattle.net.specs.declared.Request.{Request}
 use Rattle.reader.specs.Numbers.{then}
+use Rattle.search.specs.declared.Link.{Link}
 use Rattle.forms.specs.Faults.{Blame}
 
 -- the largest numbers of 16 and of 32 bits
@@ -60,6 +61,10 @@ gated_use ns = record {
 -- a budget, or 2 where the allowance is above 8
 abbrev pub budget_of : (allowance limit : ℕ) → Result Budget Blame
 budget_of allowance limit = cond (nat_le allowance 8) (Ok (record { allowance = min 8 allowance; limit = limit; few = min-le_left 8 allowance })) (Err (2, 0))
+
+-- tail, head, capacity, and what the link takes
+abbrev pub linked : {U : Type 0} → List ℕ → U → Link U
+linked ns taken = record { tail = at ns 0; head = at ns 1; capacity = at ns 2; taken = taken }
 
 -- stream, source, target, rate, hops
 abbrev pub request_of : List ℕ → Request

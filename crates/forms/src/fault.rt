@@ -33,7 +33,7 @@ impl LineFault {
         }
     }
 
-    // The position of the field to blame, or 0.
+    // The position of the field to blame, or the 0 that an answer line has in its place.
     pub fn field(&self) -> usize
         ensures { result ≡ (blame_of self.now).1 }
     {

@@ -1,27 +1,19 @@
-// The fields of a line: the first one, and the numbers after it.
+// The numbers of a line after its order.
 ghost use Rattle.std.specs.Prelude.{◌≡◌, ℕ, ◌<◌, ◌≤◌, [], length, IfOk, slice_index};
-ghost use Rattle.reader.specs.Split.{first_of, after_first};
-ghost use Rattle.reader.specs.Steps.{fields_left};
+ghost use Rattle.reader.specs.Steps.{SameLine, fields_left};
 ghost use Rattle.forms.specs.Faults.{read_as};
 ghost use Rattle.forms.specs.Forms.{numbers as numbers_read, one_number, no_number};
-ghost use Rattle.forms.specs.Reads.{SameLine};
 
 use crate::fault::LineFault;
 use reader::{NumbersFault, Reader};
 
-// The bytes of the next field; none where no field is left.
-pub fn first_field<'a>(reader: &mut Reader<'a>) -> &'a [u8]
-    ensures value { result.now ≡ first_of (fields_left reader.old) }
-    ensures rest { fields_left reader.new ≡ after_first (fields_left reader.old) }
-    ensures line { SameLine reader.old reader.new }
-{
-    match reader.next_field() {
-        Some(field) => field.bytes(),
-        None => b"",
-    }
-}
+// The largest numbers of 16 and of 32 bits.
+pub const TOP16: u32 = 65_535;
 
-// The numbers after the order: one for each of `most`, and at most that large.
+pub const TOP32: u32 = u32::MAX;
+
+// The numbers after the order: one for each of `most`, and at most that large. Their fault has no `From`, which could not
+// know that a place is small enough to be counted on from.
 pub fn numbers<const N: usize>(
     reader: &mut Reader<'_>,
     most: [u32; N],
@@ -32,11 +24,10 @@ pub fn numbers<const N: usize>(
     ensures small { IfOk result (λ ns. (i : ℕ) → i < N → slice_index ns i ≤ slice_index most.entry i) }
     ensures line { SameLine reader.old reader.new }
 {
-    match reader.next_numbers(most) {
-        Ok(found) => Ok(found),
-        Err(NumbersFault::Bad(place)) => Err(LineFault::BadField(place + 2)),
-        Err(_) => Err(LineFault::FieldCount),
-    }
+    reader.next_numbers(most).map_err(|fault| match fault {
+        NumbersFault::Bad(place) => LineFault::BadField(place + 2),
+        NumbersFault::Missing(_) | NumbersFault::Surplus => LineFault::FieldCount,
+    })
 }
 
 // One number of 16 bits.
@@ -44,7 +35,7 @@ pub fn number(reader: &mut Reader<'_>) -> Result<u16, LineFault>
     ensures told { read_as result ≡ one_number (fields_left reader.old) }
     ensures line { SameLine reader.old reader.new }
 {
-    let [number] = numbers(reader, [65535])?;
+    let [number] = numbers(reader, [TOP16])?;
     Ok(number as u16)
 }
 

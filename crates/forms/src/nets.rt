@@ -1,39 +1,38 @@
 // The order that makes a net.
 ghost use Rattle.std.specs.Prelude.{◌≡◌, ◌≤◌, [], IfOk, slice_index};
-ghost use Rattle.reader.specs.Steps.{fields_left};
+ghost use Rattle.reader.specs.Steps.{SameLine, fields_left};
 ghost use Rattle.forms.specs.Faults.{read_as};
 ghost use Rattle.forms.specs.Nets.{site_name, net_of, net_read, net_fields, net_line};
-ghost use Rattle.forms.specs.Reads.{SameLine};
 
 use crate::fault::LineFault;
-use crate::fields::first_field;
+use crate::fields::TOP16;
 use crate::order::{Order, first_order};
 use kinds::Budget;
 use net::Laying;
-use reader::{NumbersFault, Reader, same};
+use reader::{NumbersFault, Reader};
 
-#[derive(Clone, Copy)]
+#[derive(Clone, Copy, Debug, PartialEq, Eq)]
 pub enum SiteName {
     Plain,
     Gated,
 }
 
 // A net to be made: for what kind of site, and of how many nodes.
-#[derive(Clone, Copy)]
+#[derive(Clone, Copy, Debug, PartialEq, Eq)]
 pub struct NetOrder {
     pub site: SiteName,
     pub nodes: u16,
 }
 
-fn read_name(text: &[u8]) -> Option<SiteName>
-    ensures { result ≡ site_name text.now }
-{
-    if same(text, b"plain") {
-        Some(SiteName::Plain)
-    } else if same(text, b"gated") {
-        Some(SiteName::Gated)
-    } else {
-        None
+impl SiteName {
+    fn of(word: &[u8]) -> Option<SiteName>
+        ensures { result ≡ site_name word.now }
+    {
+        match word {
+            b"plain" => Some(SiteName::Plain),
+            b"gated" => Some(SiteName::Gated),
+            _ => None,
+        }
     }
 }
 
@@ -52,16 +51,11 @@ fn net_by(
     requires { IfOk nodes (λ ns. slice_index ns 0 ≤ 65535) }
     ensures { read_as result ≡ net_read name nodes }
 {
-    match nodes {
-        Err(NumbersFault::Missing(_) | NumbersFault::Surplus) => Err(LineFault::FieldCount),
-        Err(NumbersFault::Bad(_)) => match name {
-            Some(_) => Err(LineFault::BadField(3)),
-            None => Err(LineFault::BadField(2)),
-        },
-        Ok(found) => match name {
-            Some(site) => checked_net(site, found[0] as u16),
-            None => Err(LineFault::BadField(2)),
-        },
+    match (name, nodes) {
+        (_, Err(NumbersFault::Missing(_) | NumbersFault::Surplus)) => Err(LineFault::FieldCount),
+        (None, _) => Err(LineFault::BadField(2)),
+        (Some(_), Err(NumbersFault::Bad(_))) => Err(LineFault::BadField(3)),
+        (Some(site), Ok(found)) => checked_net(site, found[0] as u16),
     }
 }
 
@@ -69,8 +63,8 @@ fn read_net_fields(reader: &mut Reader<'_>) -> Result<NetOrder, LineFault>
     ensures told { read_as result ≡ net_fields (fields_left reader.old) }
     ensures line { SameLine reader.old reader.new }
 {
-    let name = read_name(first_field(reader));
-    net_by(name, reader.next_numbers([65535]))
+    let name = SiteName::of(reader.next_bytes());
+    net_by(name, reader.next_numbers([TOP16]))
 }
 
 // What a line asks while no net exists.
@@ -78,9 +72,8 @@ pub fn read_net(reader: &mut Reader<'_>) -> Result<NetOrder, LineFault>
     ensures told { read_as result ≡ net_line (fields_left reader.old) }
     ensures line { SameLine reader.old reader.new }
 {
-    match first_order(reader) {
+    match first_order(reader)? {
         Order::Net => read_net_fields(reader),
-        Order::Other => Err(LineFault::UnknownOrder),
-        _ => Err(LineFault::NotAllowed),
+        Order::Lay(_) | Order::Serve(_) => Err(LineFault::NotAllowed),
     }
 }

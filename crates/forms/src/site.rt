@@ -1,22 +1,16 @@
 // The two kinds of site: what the lines of each tell of a link and of a booking.
-ghost use Rattle.std.specs.Prelude.{◌≡◌, ℕ, ◌<◌, ◌≤◌, slice_index};
-ghost use Rattle.reader.specs.Steps.{fields_left};
+ghost use Rattle.std.specs.Prelude.{◌≡◌, ◌≤◌, slice_index};
+ghost use Rattle.reader.specs.Steps.{SameLine, fields_left};
 ghost use Rattle.forms.specs.Faults.{read_as};
-ghost use Rattle.forms.specs.Forms.{Form, plain_form, gated_form, link_of, link_widths, link_line, booking_line};
-ghost use Rattle.forms.specs.Reads.{SameLine};
-ghost use Rattle.forms.specs.Values.{budget_use, clock_use, clock_of, budget_of, request_of, plain_limits, gated_limits};
+ghost use Rattle.forms.specs.Forms.{Form, plain_form, gated_form, link_line, booking_line};
+ghost use Rattle.forms.specs.Values.{budget_use, clock_use, clock_of, budget_of, linked, request_of};
 
 use crate::fault::LineFault;
-use crate::fields::numbers;
+use crate::fields::{TOP16, TOP32, numbers};
 use kinds::{Budget, BudgetUse, Clock, ClockUse, DuctUse, Ducts, Kind, Pair, PairUse};
 use net::Request;
 use reader::Reader;
 use search::Link;
-
-// The largest numbers of 16 and of 32 bits.
-const TOP16: u32 = 65_535;
-
-const TOP32: u32 = u32::MAX;
 
 // A kind of limit whose links and bookings stand in order files.
 pub trait SiteKind: Kind {
@@ -34,6 +28,7 @@ pub trait SiteKind: Kind {
     fn blank() -> (Self, Self::Use);
 }
 
+// The casts below lose nothing, which is proved; a `try_from` would add a fault that no line can have.
 fn budget_use(nominal: u32, extra: u32) -> BudgetUse
     requires { (nominal ≤ 65535) × (extra ≤ 65535) }
     ensures { result ≡ budget_use nominal extra }
@@ -86,80 +81,18 @@ fn request<const N: usize>(found: [u32; N]) -> Request
     }
 }
 
-fn plain_link(found: [u32; 7]) -> Link<PairUse<BudgetUse, BudgetUse>>
-    requires { (i : ℕ) → i < 7 → slice_index found i ≤ slice_index (link_widths plain_form) i }
-    ensures { result ≡ link_of plain_form found }
+// What a link is told on every site, and what it takes on this one.
+fn link<U: Copy, const N: usize>(found: [u32; N], taken: U) -> Link<U>
+    requires wide { 3 ≤ N }
+    requires ends { (slice_index found 0 ≤ 65535) × (slice_index found 1 ≤ 65535) }
+    ensures { result ≡ linked found.entry taken }
 {
-    let [tail, head, capacity, price, price_extra, delay, delay_extra] = found;
     Link {
-        tail: tail as u16,
-        head: head as u16,
-        capacity,
-        taken: PairUse {
-            first: budget_use(price, price_extra),
-            second: budget_use(delay, delay_extra),
-        },
+        tail: found[0] as u16,
+        head: found[1] as u16,
+        capacity: found[2],
+        taken,
     }
-}
-
-fn gated_link(found: [u32; 9]) -> Link<PairUse<BudgetUse, PairUse<ClockUse, DuctUse>>>
-    requires { (i : ℕ) → i < 9 → slice_index found i ≤ slice_index (link_widths gated_form) i }
-    ensures { result ≡ link_of gated_form found }
-{
-    let [
-        tail,
-        head,
-        capacity,
-        price,
-        price_extra,
-        travel,
-        opens,
-        closes,
-        duct,
-    ] = found;
-    Link {
-        tail: tail as u16,
-        head: head as u16,
-        capacity,
-        taken: PairUse {
-            first: budget_use(price, price_extra),
-            second: PairUse {
-                first: clock_use(travel, opens, closes),
-                second: DuctUse { duct: duct as u16 },
-            },
-        },
-    }
-}
-
-// The price budget of every site has the largest limit.
-fn plain_kind(
-    price_allowance: u32,
-    delay_allowance: u32,
-    delay_limit: u32,
-) -> Result<Pair<Budget, Budget>, LineFault>
-    requires { (price_allowance ≤ 65535) × (delay_allowance ≤ 65535) }
-    ensures { read_as result ≡ plain_limits price_allowance delay_allowance delay_limit }
-{
-    let first = budget(price_allowance, TOP32)?;
-    let second = budget(delay_allowance, delay_limit)?;
-    Ok(Pair { first, second })
-}
-
-fn gated_kind(
-    price_allowance: u32,
-    start: u32,
-) -> Result<Pair<Budget, Pair<Clock, Ducts>>, LineFault>
-    requires { (price_allowance ≤ 65535) × (start ≤ 65535) }
-    ensures { read_as result ≡ gated_limits price_allowance start }
-{
-    let first = budget(price_allowance, TOP32)?;
-    Ok(Pair {
-        first,
-        second: Pair {
-            first: clock(start),
-            second: Ducts {},
-        },
-    })
 }
 
 impl SiteKind for Pair<Budget, Budget> {
@@ -169,7 +102,12 @@ impl SiteKind for Pair<Budget, Budget> {
         reader: &mut Reader<'_>,
     ) -> Result<Link<PairUse<BudgetUse, BudgetUse>>, LineFault> {
         let found = numbers(reader, [TOP16, TOP16, TOP32, TOP16, TOP16, TOP16, TOP16])?;
-        Ok(plain_link(found))
+        let [.., price, price_extra, delay, delay_extra] = found;
+        let taken = PairUse {
+            first: budget_use(price, price_extra),
+            second: budget_use(delay, delay_extra),
+        };
+        Ok(link(found, taken))
     }
 
     fn read_booking(reader: &mut Reader<'_>) -> Result<(Request, Pair<Budget, Budget>), LineFault> {
@@ -177,7 +115,10 @@ impl SiteKind for Pair<Budget, Budget> {
             reader,
             [TOP16, TOP16, TOP16, TOP32, TOP16, TOP16, TOP16, TOP32],
         )?;
-        let kind = plain_kind(found[5], found[6], found[7])?;
+        let [.., price_allowance, delay_allowance, delay_limit] = found;
+        let first = budget(price_allowance, TOP32)?;
+        let second = budget(delay_allowance, delay_limit)?;
+        let kind = Pair { first, second };
         Ok((request(found), kind))
     }
 
@@ -212,14 +153,29 @@ impl SiteKind for Pair<Budget, Pair<Clock, Ducts>> {
                 TOP16, TOP16, TOP32, TOP16, TOP16, TOP16, TOP16, TOP16, TOP16,
             ],
         )?;
-        Ok(gated_link(found))
+        let [.., price, price_extra, travel, opens, closes, duct] = found;
+        let taken = PairUse {
+            first: budget_use(price, price_extra),
+            second: PairUse {
+                first: clock_use(travel, opens, closes),
+                second: DuctUse { duct: duct as u16 },
+            },
+        };
+        Ok(link(found, taken))
     }
 
     fn read_booking(
         reader: &mut Reader<'_>,
     ) -> Result<(Request, Pair<Budget, Pair<Clock, Ducts>>), LineFault> {
         let found = numbers(reader, [TOP16, TOP16, TOP16, TOP32, TOP16, TOP16, TOP16])?;
-        let kind = gated_kind(found[5], found[6])?;
+        let [.., price_allowance, start] = found;
+        let kind = Pair {
+            first: budget(price_allowance, TOP32)?,
+            second: Pair {
+                first: clock(start),
+                second: Ducts {},
+            },
+        };
         Ok((request(found), kind))
     }
 

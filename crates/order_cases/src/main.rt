@@ -6,8 +6,11 @@ use orders::answer_file;
 use std::alloc::{AllocError, Global};
 use std::io;
 
+// A name, a file, and the answers to it.
+type Case = (&'static str, &'static [u8], &'static str);
+
 // How a file is parted into lines, and what an order is.
-const LINES: [(&str, &[u8], &str); 6] = [
+const LINES: [Case; 6] = [
     ("an empty file", b"", ""),
     ("one line feed", b"\n", "1,refused,21,0\n"),
     ("no last line feed", b"net,plain,2\nopen", "1,ok\n2,ok\n"),
@@ -28,7 +31,7 @@ const LINES: [(&str, &[u8], &str); 6] = [
     ),
 ];
 
-const NUMBERS: [(&str, &[u8], &str); 4] = [
+const NUMBERS: [Case; 4] = [
     (
         "eleven digits",
         b"net,plain,00000000002\nnet,plain,2\nlink,0,1,00000000009,1,0,1,0\n",
@@ -52,7 +55,7 @@ const NUMBERS: [(&str, &[u8], &str); 4] = [
 ];
 
 // First the count of the fields, then the first bad one.
-const FIELDS: [(&str, &[u8], &str); 5] = [
+const FIELDS: [Case; 5] = [
     (
         "a field too many",
         b"net,plain,2,2\nnet,plain,2,\nnet,plain,2\nlink,0,1,9,1,0,1,0,0\nwithdraw,0,0\nopen,0\nopen,\nopen\nbook,1,0,1,1,1,0,0,9,9\nrelease,1,1\nshow,1,1\nload,0,0\nclose,\nclose\n",
@@ -81,7 +84,7 @@ const FIELDS: [(&str, &[u8], &str); 5] = [
 ];
 
 // When each order is allowed; this is asked before its fields.
-const STATES: [(&str, &[u8], &str); 4] = [
+const STATES: [Case; 4] = [
     (
         "orders before a net",
         b"link,0,1,9,1,0,1,0\nwithdraw,0\nopen\nbook,1,0,1,1,1,0,0,9\nrelease,1\nshow,1\nload,0\nclose\nstart\nnet,plain,2\n",
@@ -104,7 +107,7 @@ const STATES: [(&str, &[u8], &str); 4] = [
     ),
 ];
 
-const CALLS: [(&str, &[u8], &str); 7] = [
+const CALLS: [Case; 7] = [
     (
         "each question of a link",
         b"net,plain,2\nlink,2,2,9,1,0,1,0\nlink,0,2,9,1,0,1,0\nlink,1,1,9,1,0,1,0\nwithdraw,0\nlink,0,1,9,1,0,1,0\nlink,1,0,9,1,0,1,0\nwithdraw,0\nwithdraw,1\nlink,0,1,9,1,0,1,0\n",
@@ -157,23 +160,15 @@ fn show(rt: &HostRuntime, name: &str, text: &[u8], expected: &str) -> io::Result
             println!(rt; "-- {name}: {verdict}")?;
             print!(rt; "{answers}")
         }
-        Err(_) => println!(rt; "-- {name}: no memory"),
+        Err(fault) => println!(rt; "-- {name}: {fault}"),
     }
 }
 
-fn show_all(rt: &HostRuntime, cases: &[(&str, &[u8], &str)]) -> io::Result<()> {
+fn show_all(rt: &HostRuntime, cases: &[Case]) -> io::Result<()> {
     for (name, text, expected) in cases {
         show(rt, *name, *text, *expected)?;
     }
     Ok(())
-}
-
-fn last_line(text: &str) -> &str {
-    let mut last = text;
-    for line in text.lines() {
-        last = line;
-    }
-    last
 }
 
 // Shows how many answers there are; the last of them is held to the one expected.
@@ -187,19 +182,18 @@ fn show_end(
     match answer_file(rt.alloc(), text) {
         Ok(answers) => {
             let count = answers.lines().count();
-            let last = last_line(answers.as_str());
-            let verdict = verdict(count == expected_count && last == expected_last);
+            let last = answers.lines().last();
+            let verdict = verdict(count == expected_count && last == Some(expected_last));
             println!(rt; "-- {name}: {verdict}")?;
             println!(rt; "answers {count}")
         }
-        Err(_) => println!(rt; "-- {name}: no memory"),
+        Err(fault) => println!(rt; "-- {name}: {fault}"),
     }
 }
 
 // The start of a file, and then the same text again and again.
 fn repeated(heap: Global, start: &str, more: &str, times: usize) -> Result<String, AllocError> {
-    let mut text = String::new(heap);
-    text.push_str(start)?;
+    let mut text = String::from_str(heap, start)?;
     for _ in 0..times {
         text.push_str(more)?;
     }
@@ -208,12 +202,9 @@ fn repeated(heap: Global, start: &str, more: &str, times: usize) -> Result<Strin
 
 // A file that books so many streams over one link.
 fn bookings(heap: Global, streams: u16) -> Result<String, AllocError> {
-    let mut text = String::new(heap);
-    text.push_str("net,plain,2\nlink,0,1,100,1,0,1,0\nopen\n")?;
-    for stream in 0..streams {
-        let number = stream.wrapping_add(1);
-        let line = format!(in heap; "book,{number},0,1,1,1,0,0,1\n")?;
-        text.push_str(&line)?;
+    let mut text = String::from_str(heap, "net,plain,2\nlink,0,1,100,1,0,1,0\nopen\n")?;
+    for number in 1..=streams {
+        writeln!(text, "book,{number},0,1,1,1,0,0,1")?;
     }
     Ok(text)
 }

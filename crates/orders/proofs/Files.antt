@@ -8,6 +8,7 @@ use Rattle.reader.specs.Split.{lines}
 use Rattle.reader.proofs.Laws.{lines_law}
 use Rattle.orders.specs.Desk.{Desk, no_net, reply, next_desk, replies}
 use Rattle.orders.specs.Files.{most, answers_of, left_by, Promised, Begins, LawsOfFile}
+use Rattle.orders.specs.Finds.{Served}
 use Rattle.orders.specs.Lines.{Reply, accepted, refused, listed, reply_line, numbered}
 
 -- no line feed is written of a number
@@ -97,3 +98,7 @@ laws_of_file text holds = record {
       ∙ ap (take k) (sym (answer-lines text fits));
   promised = holds;
 }
+
+-- the laws of a file whose lines were answered
+pub laws_served : (text out : List ℕ) → length text ≤ most → Served no_net 0 (lines text) [] out → LawsOfFile text
+laws_served text out fits served = laws_of_file text (subst Promised (sym (cond-true _ _ _ (le-leb (length text) most fits))) served.promised)

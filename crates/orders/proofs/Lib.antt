@@ -3,5 +3,3 @@ pub mod Files
 pub mod Finds
 pub mod Passes
 pub mod Sites
-pub mod Texts
-pub mod Writes

@@ -1,6 +1,7 @@
 -- The replies to a site's lines are those of the calls that the lines make, performed together. Assumes nothing.
-use Rattle.std.proofs.Common.{◌≡◌, ℕ, ◌+◌, Bool, true, false, cond, eqb, List, [], ◌∷◌, ◌++◌, Ok, Err, fold, Result, sym, refl, ap, ◌∙◌, ⊎_elim, append_assoc, append-nil}
+use Rattle.std.proofs.Common.{◌≡◌, ℕ, ◌+◌, Bool, true, false, cond, eqb, List, [], ◌∷◌, ◌++◌, Ok, Err, Result, sym, refl, ap, ◌∙◌, ⊎_elim, append_assoc, append-nil}
 use Rattle.std.proofs.lemmas.Bool.{cases_Bool, cond-true, cond-false}
+use Rattle.std.proofs.lemmas.List.Sums.{fold_push}
 use Rattle.kinds.specs.Kinds.{Model}
 use Rattle.net.specs.Ledger.{Ledger, Site, answer, changed, next, after, answers, begun}
 use Rattle.net.specs.Questions.{Told}
@@ -13,10 +14,6 @@ use Rattle.forms.specs.Forms.{Form, line_call}
 use Rattle.orders.specs.Lines.{reply_line, numbered}
 use Rattle.orders.specs.Passes.{serving_after, serving_by, reads, calls_in, entries, entry_texts}
 use Rattle.orders.specs.Runs.{reply_to, calls_with, site_replies, site_calls}
-
-folded_push : {A B : Type 0} (f : A → B → A) (a : A) (xs : List B) (x : B) → fold f a (xs ++ x ∷ []) ≡ f (fold f a xs) x
-folded_push f a [] x = refl
-folded_push f a (y ∷ xs) x = folded_push f (f a y) xs x
 
 module _ {K S U : Type 0} (m : Model K S U) (site : Site) where
   -- a call that is refused leaves the state, and one that opens or closes is refused where the net is open or closed
@@ -46,7 +43,7 @@ module _ {K S U : Type 0} (m : Model K S U) (site : Site) where
       closed false off = ap (λ (x : Told). (cond (eqb x.0 0) (changed m site s Close) s).serving) (cond-false _ _ _ off) ∙ off
 
   pub after_push : (calls : List (Call K U)) (c : Call K U) → after m site (calls ++ c ∷ []) ≡ next m site (after m site calls) c
-  after_push calls c = folded_push (next m site) begun calls c
+  after_push calls c = fold_push (next m site) begun calls c
 
   serving_push : (calls : List (Call K U)) (c : Call K U) → (after m site (calls ++ c ∷ [])).serving ≡ serving_after c (after m site calls).serving
   serving_push calls c = ap (λ x. x.serving) (after_push calls c) ∙ serving_next (after m site calls) c

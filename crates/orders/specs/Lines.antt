@@ -1,5 +1,6 @@
 -- Answer lines: how a reply is written. Assumes nothing.
 use Rattle.std.specs.Prelude.{◌≡◌, ℕ, ◌+◌, List, [], ◌∷◌, ◌++◌, codes, decimal, Result, OnOk}
+use Rattle.std.specs.List.{flat_map}
 
 -- the reply to a line: values, or the number of the refusal and the field to blame, 0 where none is
 pub data Reply : Type 0 where
@@ -12,8 +13,7 @@ Written before bytes r after = OnOk r (after ≡ before ++ bytes)
 
 -- each value after a comma
 abbrev pub listed : List ℕ → List ℕ
-listed [] = []
-listed (v ∷ vs) = 44 ∷ (decimal v ++ listed vs)
+listed vs = flat_map (λ v. 44 ∷ decimal v) vs
 
 -- line n: `ok` and the values, or `refused`, the number and the field
 abbrev pub reply_line : ℕ → Reply → List ℕ

@@ -1,9 +1,8 @@
 // An order file: its bytes to the bytes of its answers.
-ghost use Rattle.std.specs.Prelude.{◌≡◌, [], length, IfOk, string_bytes, OnOk, nat_le};
-ghost use Rattle.reader.specs.Split.{lines};
+ghost use Rattle.std.specs.Prelude.{◌≡◌, ◌≤◌, length, IfOk, string_bytes, OnOk};
 ghost use Rattle.reader.specs.Steps.{lines_left, line_number};
-ghost use Rattle.orders.specs.Desk.{no_net, new_net};
-ghost use Rattle.orders.specs.Files.{most, too_long, answers_of, LawsOfFile};
+ghost use Rattle.orders.specs.Desk.{new_net};
+ghost use Rattle.orders.specs.Files.{most, answers_of, LawsOfFile};
 ghost use Rattle.orders.specs.Finds.{NetFound, Served};
 
 use crate::fault::AnswerFault;
@@ -12,13 +11,13 @@ use crate::write::{write_fault, write_made};
 use forms::{NetOrder, SiteName, read_net};
 use kinds::{Budget, Clock, Ducts, Pair};
 use reader::Reader;
-use std::alloc::Global;
+use std::alloc::{AllocError, Global};
 
 // The most bytes that a file may have.
 const MOST: usize = 60_000;
 
 // Answers the lines up to the one that makes a net.
-fn find_net(reader: &mut Reader<'_>, out: &mut String) -> Result<Option<NetOrder>, AnswerFault>
+fn find_net(reader: &mut Reader<'_>, out: &mut String) -> Result<Option<NetOrder>, AllocError>
     ensures { IfOk result (λ net. NetFound (line_number reader.old) (lines_left reader.old) (string_bytes out.old) net (line_number reader.new) (lines_left reader.new) (string_bytes out.new)) }
 {
     while let Some(line) = reader.next_line() {
@@ -39,7 +38,7 @@ fn serve_site(
     reader: &mut Reader<'_>,
     net: NetOrder,
     out: &mut String,
-) -> Result<(), AnswerFault>
+) -> Result<(), AllocError>
     ensures { OnOk result (Served (new_net net.site net.nodes) (line_number reader.old) (lines_left reader.old) (string_bytes out.old) (string_bytes out.new)) }
 {
     match net.site {
@@ -48,8 +47,10 @@ fn serve_site(
     }
 }
 
-fn answer_lines(heap: Global, text: &[u8]) -> Result<String, AnswerFault>
-    ensures { IfOk result (λ out. Served no_net 0 (lines text.now) [] (string_bytes out)) }
+fn answer_lines(heap: Global, text: &[u8]) -> Result<String, AllocError>
+    requires { length text.now ≤ most }
+    ensures answers { IfOk result (λ out. string_bytes out ≡ answers_of text.now) }
+    ensures laws { OnOk result (LawsOfFile text.now) }
 {
     let mut out = String::new(heap);
     let mut reader = Reader::new(text);
@@ -59,28 +60,14 @@ fn answer_lines(heap: Global, text: &[u8]) -> Result<String, AnswerFault>
     Ok(out)
 }
 
-fn fits(text: &[u8]) -> bool
-    ensures { result ≡ nat_le (length text.now) most }
-{
-    text.len() <= MOST
-}
-
-fn refuse_file(heap: Global) -> Result<String, AnswerFault>
-    ensures { IfOk result (λ out. string_bytes out ≡ too_long) }
-{
-    let mut out = String::new(heap);
-    out.push_str("0,refused,20,0\n")?;
-    Ok(out)
-}
-
 // The answers to an order file. The only fault is that there is no memory.
 pub fn answer_file(heap: Global, text: &[u8]) -> Result<String, AnswerFault>
     ensures answers { IfOk result (λ out. string_bytes out ≡ answers_of text.now) }
     ensures laws { OnOk result (LawsOfFile text.now) }
 {
-    if fits(text) {
-        answer_lines(heap, text)
+    if text.len() <= MOST {
+        Ok(answer_lines(heap, text)?)
     } else {
-        refuse_file(heap)
+        Ok(String::from_str(heap, "0,refused,20,0\n")?)
     }
 }

@@ -2,13 +2,12 @@
 ghost use Rattle.std.specs.Prelude.{◌≡◌, ◌+◌, false, [], ◌∷◌, ◌++◌, map, IfOk, OnOk};
 ghost use Rattle.reader.specs.Steps.{lines_left, line_number};
 ghost use Rattle.forms.specs.Faults.{read_as};
-ghost use Rattle.orders.specs.Passes.{entry_of, blame_some, refusal_in, serving_after, serving_by, call_in, reads, calls_in, entries};
+ghost use Rattle.orders.specs.Passes.{entry_of, blame_some, refusal_in, serving_by, call_in, reads, calls_in, entries};
 
-use crate::fault::AnswerFault;
 use forms::{LineFault, SiteKind, read_line};
 use net::Call;
 use reader::Reader;
-use std::alloc::Global;
+use std::alloc::{AllocError, Global};
 
 // A line that was read: its number, and why it is refused; a line that is not makes the next call.
 #[derive(Drop)]
@@ -17,21 +16,11 @@ pub struct Line {
     pub refusal: Option<LineFault>,
 }
 
-// What the lines of a site ask.
+// What the lines of a site ask. The calls lie apart from the lines, since they are performed as one slice.
 #[derive(Drop)]
 pub struct Orders<K: Copy, U: Copy> {
     pub calls: Vec<Call<K, U>>,
     pub lines: Vec<Line>,
-}
-
-fn state_after<K: Copy, U: Copy>(call: &Call<K, U>, serving: bool) -> bool
-    ensures { result ≡ serving_after call.now serving }
-{
-    match call {
-        Call::Open => true,
-        Call::Close => false,
-        _ => serving,
-    }
 }
 
 // Whether the net is in service after a line.
@@ -39,8 +28,9 @@ fn state_by<K: Copy, U: Copy>(read: &Result<Call<K, U>, LineFault>, serving: boo
     ensures { result ≡ serving_by (read_as read.now) serving }
 {
     match read {
-        Ok(call) => state_after(call, serving),
-        Err(_) => serving,
+        Ok(Call::Open) => true,
+        Ok(Call::Close) => false,
+        _ => serving,
     }
 }
 
@@ -55,30 +45,20 @@ impl<K: Copy, U: Copy> Orders<K, U> {
         }
     }
 
-    fn add_line(&mut self, number: usize, refusal: Option<LineFault>) -> Result<(), AnswerFault>
-        ensures calls { self.new.calls.items ≡ self.old.calls.items }
-        ensures lines { OnOk result (map entry_of self.new.lines.items ≡ map entry_of self.old.lines.items ++ (number, blame_some refusal) ∷ []) }
-    {
-        self.lines.push(Line { number, refusal })?;
-        Ok(())
-    }
-
     // One line more.
-    fn note(
-        &mut self,
-        number: usize,
-        read: Result<Call<K, U>, LineFault>,
-    ) -> Result<(), AnswerFault>
+    fn note(&mut self, number: usize, read: Result<Call<K, U>, LineFault>) -> Result<(), AllocError>
         ensures calls { OnOk result (self.new.calls.items ≡ self.old.calls.items ++ call_in (read_as read)) }
         ensures lines { OnOk result (map entry_of self.new.lines.items ≡ map entry_of self.old.lines.items ++ (number, refusal_in (read_as read)) ∷ []) }
     {
-        match read {
+        let refusal = match read {
             Ok(call) => {
                 self.calls.push(call)?;
-                self.add_line(number, None)
+                None
             }
-            Err(fault) => self.add_line(number, Some(fault)),
-        }
+            Err(fault) => Some(fault),
+        };
+        self.lines.push(Line { number, refusal })?;
+        Ok(())
     }
 }
 
@@ -86,7 +66,7 @@ impl<K: Copy, U: Copy> Orders<K, U> {
 pub fn read_orders<K: SiteKind>(
     heap: Global,
     reader: &mut Reader<'_>,
-) -> Result<Orders<K, K::Use>, AnswerFault>
+) -> Result<Orders<K, K::Use>, AllocError>
     ensures calls { IfOk result (λ o. o.calls.items ≡ calls_in (reads K.SiteKind.form false (lines_left reader.old))) }
     ensures lines { IfOk result (λ o. map entry_of o.lines.items ≡ entries (line_number reader.old + 1) (reads K.SiteKind.form false (lines_left reader.old))) }
 {

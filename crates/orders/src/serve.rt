@@ -1,5 +1,6 @@
 // A site whose net exists: its lines to calls, the calls performed, their answers to lines.
 ghost use Rattle.std.specs.Prelude.{◌≡◌, ◌+◌, [], map, length, drop, IfOk, string_bytes, OnOk};
+ghost use Rattle.std.specs.Slice.Iter.{iter_rest};
 ghost use Rattle.net.specs.Laws.{PromiseOfRun};
 ghost use Rattle.net.specs.Ledger.{answers, begun};
 ghost use Rattle.net.specs.Performed.{told_of};
@@ -10,66 +11,51 @@ ghost use Rattle.orders.specs.Lines.{Written, numbered};
 ghost use Rattle.orders.specs.Passes.{entry_of, entry_text, told_left, entry_texts};
 ghost use Rattle.orders.specs.Runs.{site_replies, site_calls};
 
-use crate::fault::AnswerFault;
 use crate::lines::{Line, read_orders};
 use crate::write::{write_answer, write_fault};
 use forms::{LABEL_PLACES, SiteKind};
 use kinds::Kind;
-use net::{Answer, Call, Shift, Stream, perform};
+use net::{Answer, Call, Refusal, Shift, Stream, perform};
 use reader::Reader;
 use search::{Label, Link};
-use std::alloc::Global;
+use std::alloc::{AllocError, Global};
+use std::slice::Iter;
 
 const LINK_PLACES: usize = 512;
 
 const STREAM_PLACES: usize = 64;
 
-// Writes the answer to a line, and gives the place of the next call's answer.
+// Writes the answer to a line: a line that is not refused takes that to the next call.
 fn write_line(
     out: &mut String,
     line: &Line,
-    answers: &[Answer],
-    next: usize,
-) -> Result<usize, AnswerFault>
-    ensures written { Written (string_bytes out.old) (entry_text (entry_of line.now) (map told_of (drop next answers.now))) result (string_bytes out.new) }
-    ensures next { IfOk result (λ n. map told_of (drop n answers.now) ≡ told_left (entry_of line.now) (map told_of (drop next answers.now))) }
+    answers: &mut Iter<'_, Result<Answer, Refusal>>,
+) -> Result<(), AllocError>
+    ensures written { Written (string_bytes out.old) (entry_text (entry_of line.now) (map told_of (iter_rest answers.old))) result (string_bytes out.new) }
+    ensures left { map told_of (iter_rest answers.new) ≡ told_left (entry_of line.now) (map told_of (iter_rest answers.old)) }
 {
-    match &line.refusal {
-        Some(fault) => {
-            write_fault(out, line.number, fault)?;
-            Ok(next)
-        }
-        None => {
-            if next < answers.len() {
-                write_answer(out, line.number, &answers[next])?;
-                Ok(next + 1)
-            } else {
-                Ok(next)
-            }
-        }
+    if let Some(fault) = &line.refusal {
+        return write_fault(out, line.number, fault);
+    }
+    match answers.next() {
+        Some(answer) => write_answer(out, line.number, answer),
+        None => Ok(()),
     }
 }
 
 // Writes the answers to the lines.
-fn write_lines(out: &mut String, lines: &[Line], answers: &[Answer]) -> Result<(), AnswerFault>
+fn write_lines(
+    out: &mut String,
+    lines: &[Line],
+    answers: &[Result<Answer, Refusal>],
+) -> Result<(), AllocError>
     ensures { Written (string_bytes out.old) (entry_texts (map entry_of lines.now) (map told_of answers.now)) result (string_bytes out.new) }
 {
-    let mut next = 0;
+    let mut answers = answers.iter();
     for line in lines {
-        next = write_line(out, line, answers, next)?;
+        write_line(out, line, &mut answers)?;
     }
     Ok(())
-}
-
-// A table of so many places.
-fn filled<T: Copy>(heap: Global, value: T, places: usize) -> Result<Vec<T>, AnswerFault>
-    ensures { IfOk result (λ v. length v.items ≡ places) }
-{
-    let mut table = Vec::new(heap);
-    for _ in 0..places {
-        table.push(value)?;
-    }
-    Ok(table)
 }
 
 // Performs the calls on the tables that every site has.
@@ -77,7 +63,7 @@ fn perform_all<K: SiteKind>(
     heap: Global,
     nodes: u16,
     calls: &[Call<K, K::Use>],
-) -> Result<Vec<Answer>, AnswerFault>
+) -> Result<Vec<Result<Answer, Refusal>>, AllocError>
     ensures answered { IfOk result (λ v. map told_of v.items ≡ answers K.Kind.model (supplied nodes) begun calls.now) }
     ensures laws { OnOk result (PromiseOfRun K.Kind.model (supplied nodes) calls.now) }
 {
@@ -102,9 +88,9 @@ fn perform_all<K: SiteKind>(
         from: 0,
         link: 0,
     };
-    let mut links = filled(heap, link, LINK_PLACES)?;
-    let mut streams = filled(heap, stream, STREAM_PLACES)?;
-    let mut labels = filled(heap, label, LABEL_PLACES)?;
+    let mut links = vec![in heap; link; LINK_PLACES]?;
+    let mut streams = vec![in heap; stream; STREAM_PLACES]?;
+    let mut labels = vec![in heap; label; LABEL_PLACES]?;
     let Shift { answers, .. } = perform(heap, nodes, &mut links, &mut streams, &mut labels, calls)?;
     Ok(answers)
 }
@@ -115,7 +101,7 @@ pub fn serve<K: SiteKind>(
     reader: &mut Reader<'_>,
     nodes: u16,
     out: &mut String,
-) -> Result<(), AnswerFault>
+) -> Result<(), AllocError>
     ensures written { Written (string_bytes out.old) (with_feeds (numbered (line_number reader.old + 1) (site_replies K.Kind.model K.SiteKind.form (supplied nodes) [] (lines_left reader.old)))) result (string_bytes out.new) }
     ensures laws { OnOk result (PromiseOfRun K.Kind.model (supplied nodes) (site_calls K.Kind.model K.SiteKind.form (supplied nodes) [] (lines_left reader.old))) }
 {

@@ -1,62 +1,32 @@
 // Answer lines, written to a text.
-ghost use Rattle.std.specs.Prelude.{◌≡◌, [], ◌∷◌, ◌++◌, take, string_bytes, decimal};
-ghost use Rattle.net.specs.Performed.{told_of};
+ghost use Rattle.std.specs.Prelude.{◌≡◌, [], ◌∷◌, ◌++◌, Some, take, string_bytes};
+ghost use Rattle.net.specs.Performed.{told_of, values_of};
 ghost use Rattle.forms.specs.Faults.{blame_of};
 ghost use Rattle.orders.specs.Lines.{Written, listed, reply_line, accepted, refused};
 ghost use Rattle.orders.specs.Runs.{reply_of};
 
-use crate::fault::AnswerFault;
 use forms::LineFault;
-use net::Answer;
-use std::fmt::Write;
+use net::{Answer, Refusal};
+use std::alloc::AllocError;
+use std::fmt;
 
-fn write_refusal(
-    out: &mut String,
-    line: usize,
-    number: u16,
-    field: usize,
-) -> Result<(), AnswerFault>
+fn write_refusal(out: &mut String, line: usize, number: u16, field: usize) -> Result<(), AllocError>
     ensures { Written (string_bytes out.old) (reply_line line (refused number field) ++ 10 ∷ []) result (string_bytes out.new) }
 {
-    writeln!(out, "{line},refused,{number},{field}")?;
-    Ok(())
+    writeln!(out, "{line},refused,{number},{field}")
 }
 
-pub fn write_fault(out: &mut String, line: usize, fault: &LineFault) -> Result<(), AnswerFault>
+pub fn write_fault(out: &mut String, line: usize, fault: &LineFault) -> Result<(), AllocError>
     ensures { Written (string_bytes out.old) (reply_line line (refused (blame_of fault.now).0 (blame_of fault.now).1) ++ 10 ∷ []) result (string_bytes out.new) }
 {
     write_refusal(out, line, fault.number(), fault.field())
 }
 
 // The answer to the order that made a net.
-pub fn write_made(out: &mut String, line: usize) -> Result<(), AnswerFault>
+pub fn write_made(out: &mut String, line: usize) -> Result<(), AllocError>
     ensures { Written (string_bytes out.old) (reply_line line (accepted []) ++ 10 ∷ []) result (string_bytes out.new) }
 {
-    writeln!(out, "{line},ok")?;
-    Ok(())
-}
-
-fn write_ok(out: &mut String, line: usize) -> Result<(), AnswerFault>
-    ensures { Written (string_bytes out.old) (reply_line line (accepted [])) result (string_bytes out.new) }
-{
-    write!(out, "{line},ok")?;
-    Ok(())
-}
-
-fn write_link(out: &mut String, link: u16) -> Result<(), AnswerFault>
-    ensures { Written (string_bytes out.old) (44 ∷ decimal link) result (string_bytes out.new) }
-{
-    write!(out, ",{link}")?;
-    Ok(())
-}
-
-fn write_links(out: &mut String, links: &[u16]) -> Result<(), AnswerFault>
-    ensures { Written (string_bytes out.old) (listed links.now) result (string_bytes out.new) }
-{
-    for link in links {
-        write_link(out, *link)?;
-    }
-    Ok(())
+    writeln!(out, "{line},ok")
 }
 
 // The links of a route, which lie at the start of sixteen places.
@@ -66,44 +36,64 @@ fn route(links: &[u16; 16], hops: u16) -> &[u16]
     &links[0..usize::from(hops).min(16)]
 }
 
-// The values of an answer.
-fn write_values(out: &mut String, answer: &Answer) -> Result<(), AnswerFault>
-    ensures { Written (string_bytes out.old) (listed (told_of answer.now).1) result (string_bytes out.new) }
-{
-    match answer {
-        Answer::Added(number) => write!(out, ",{number}")?,
-        Answer::Booked(figure, hops, labels) => write!(out, ",{figure},{hops},{labels}")?,
-        Answer::Shown {
-            figure,
-            rate,
-            hops,
-            links,
-        } => {
-            write!(out, ",{figure},{rate}")?;
-            write_links(out, route(links, *hops))?;
+// Numbers, each after a comma.
+#[derive(Clone, Copy)]
+struct Listed<'a>(&'a [u16]);
+
+impl fmt::Display for Listed<'_> {
+    ghost output = { λ l. Some (listed l.0.now) };
+
+    fn fmt<W: fmt::Write>(&self, f: &mut fmt::Formatter<W>) -> fmt::Result {
+        for number in self.0 {
+            write!(f, ",{number}")?;
         }
-        Answer::Loaded(load) => write!(out, ",{load}")?,
-        Answer::Ended(streams) => write!(out, ",{streams}")?,
-        Answer::Done | Answer::Refused(_) | Answer::NotTaken => {}
+        Ok(())
     }
-    Ok(())
 }
 
-fn write_accepted(out: &mut String, line: usize, answer: &Answer) -> Result<(), AnswerFault>
-    ensures { Written (string_bytes out.old) (reply_line line (accepted (told_of answer.now).1) ++ 10 ∷ []) result (string_bytes out.new) }
+// The values of an answer, each after a comma.
+#[derive(Clone, Copy)]
+struct Values<'a>(&'a Answer);
+
+impl fmt::Display for Values<'_> {
+    ghost output = { λ v. Some (listed (values_of v.0.now)) };
+
+    fn fmt<W: fmt::Write>(&self, f: &mut fmt::Formatter<W>) -> fmt::Result {
+        match self.0 {
+            Answer::Added(number) => write!(f, ",{number}"),
+            Answer::Booked(figure, hops, labels) => write!(f, ",{figure},{hops},{labels}"),
+            Answer::Shown {
+                figure,
+                rate,
+                hops,
+                links,
+            } => {
+                let links = Listed(route(links, *hops));
+                write!(f, ",{figure},{rate}{links}")
+            }
+            Answer::Loaded(load) => write!(f, ",{load}"),
+            Answer::Ended(streams) => write!(f, ",{streams}"),
+            Answer::Done => Ok(()),
+        }
+    }
+}
+
+fn write_accepted(out: &mut String, line: usize, answer: &Answer) -> Result<(), AllocError>
+    ensures { Written (string_bytes out.old) (reply_line line (accepted (values_of answer.now)) ++ 10 ∷ []) result (string_bytes out.new) }
 {
-    write_ok(out, line)?;
-    write_values(out, answer)?;
-    out.push_str("\n")?;
-    Ok(())
+    let values = Values(answer);
+    writeln!(out, "{line},ok{values}")
 }
 
-pub fn write_answer(out: &mut String, line: usize, answer: &Answer) -> Result<(), AnswerFault>
+pub fn write_answer(
+    out: &mut String,
+    line: usize,
+    answer: &Result<Answer, Refusal>,
+) -> Result<(), AllocError>
     ensures { Written (string_bytes out.old) (reply_line line (reply_of (told_of answer.now)) ++ 10 ∷ []) result (string_bytes out.new) }
 {
     match answer {
-        Answer::Refused(fault) => write_refusal(out, line, fault.number(), 0),
-        Answer::NotTaken => write_refusal(out, line, 22, 0),
-        _ => write_accepted(out, line, answer),
+        Ok(answer) => write_accepted(out, line, answer),
+        Err(refusal) => write_refusal(out, line, refusal.number(), 0),
     }
 }

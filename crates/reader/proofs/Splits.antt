@@ -1,51 +1,63 @@
 -- The first piece of a split, and what follows it.
-use Rattle.std.proofs.Common.{◌≡◌, ℕ, zero, suc, ◌+◌, ◌-◌, ◌<◌, ◌≤◌, List, [], ◌∷◌, length, get_or, take, drop, refl, ap, ◌∙◌, add-one, arith}
-use Rattle.std.specs.List.{between}
+use Rattle.std.proofs.Common.{◌≡◌, ℕ, zero, suc, ◌+◌, ◌-◌, ◌<◌, Bool, true, false, eqb, ltb, List, [], ◌∷◌, length, get_or, take, drop, Some, None, sym, refl, ap, ◌∙◌, ⊎_elim, add-one, arith, length-drop}
+use Rattle.std.specs.List.{between, position, position_or_len}
 use Rattle.std.proofs.lemmas.List.{take_all, drop_all, drop-drop}
-use Rattle.std.proofs.lemmas.Bool.{eq-eqb, ne_eqb, cond-true, cond-false}
+use Rattle.std.proofs.lemmas.List.Quantifiers.{position-Some}
+use Rattle.std.proofs.lemmas.List.Sums.{fails_before_first}
+use Rattle.std.proofs.lemmas.Bool.{cases_Bool, cond-true, cond-false, ltb-false}
 use Rattle.reader.specs.Split.{onto, split}
 
--- n is the index of the first s, or the length where there is none
-pub record First (s : ℕ) (bs : List ℕ) (n : ℕ) : Type 0 where
-  pub within : n ≤ length bs
-  pub before : (k : ℕ) → k < n → get_or bs k 0 ≡ s → ⊥
-  pub found : n < length bs → get_or bs n 0 ≡ s
+-- none of the bytes before the place is s
+abbrev Before : ℕ → List ℕ → ℕ → Type 0
+Before s bs n = (k : ℕ) → k < n → eqb (get_or bs k 0) s ≡ false
 
-split_found : (s : ℕ) (last : List (List ℕ)) (bs : List ℕ) (n : ℕ) → First s bs n → n < length bs → split s last bs ≡ take n bs ∷ split s last (drop (suc n) bs)
-split_found s last [] n h l = absurd (omega arith)
-split_found s last (b ∷ bs) zero h l = cond-true _ _ _ (eq-eqb b s (h.found l))
-split_found s last (b ∷ bs) (suc n) h l =
-    cond-false _ _ _ (ne_eqb b s (h.before 0 (omega arith)))
-    ∙ ap (onto b) (split_found s last bs n (record {
-      within = omega (arith, h.within);
-      before = λ k lt. h.before (suc k) (omega arith);
-      found = λ lt. h.found l;
-    }) (omega arith))
+split_found : (s : ℕ) (last : List (List ℕ)) (bs : List ℕ) (n : ℕ) → n < length bs → eqb (get_or bs n 0) s ≡ true → Before s bs n → split s last bs ≡ take n bs ∷ split s last (drop (suc n) bs)
+split_found s last [] n l here before = absurd (omega arith)
+split_found s last (b ∷ bs) zero l here before = cond-true _ _ _ here
+split_found s last (b ∷ bs) (suc n) l here before =
+    cond-false _ _ _ (before 0 (omega arith)) ∙ ap (onto b) (split_found s last bs n (omega arith) here (λ k lt. before (suc k) (omega arith)))
 
-pub split_more : (s : ℕ) (last : List (List ℕ)) (bs : List ℕ) (n : ℕ) → First s bs n → n < length bs → split s last bs ≡ take n bs ∷ split s last (drop (n + 1) bs)
-split_more s last bs n h l = rw add-one (split_found s last bs n h l)
+pub split_some : (s : ℕ) (last : List (List ℕ)) (bs : List ℕ) (n : ℕ) → Some n ≡ position (λ b. eqb b s) bs → split s last bs ≡ take n bs ∷ split s last (drop (n + 1) bs)
+split_some s last bs n e =
+    let h = position-Some (λ b. eqb b s) bs n 0 (sym e) in
+    rw add-one (split_found s last bs n h.0 h.1 h.2)
 
-pub split-all : (s : ℕ) (bs : List ℕ) → ((k : ℕ) → k < length bs → get_or bs k 0 ≡ s → ⊥) → split s ([] ∷ []) bs ≡ bs ∷ []
-split-all s [] free = refl
-split-all s (b ∷ bs) free =
-    cond-false _ _ _ (ne_eqb b s (free 0 (omega arith))) ∙ ap (onto b) (split-all s bs (λ k lt. free (suc k) (omega arith)))
+-- where no element passes, none before the end does
+pub none_passes : {X : Type 0} (p : X → Bool) (xs : List X) (k : ℕ) (d : X) → None ≡ position p xs → k < length xs → p (get_or xs k d) ≡ false
+none_passes p xs k d e lt =
+    ⊎_elim
+    (λ t. absurd (none_is (position_or_len p xs) (e ∙ cond-true _ _ _ t)))
+    (λ t. fails_before_first p xs k d (omega (arith, ltb-false _ _ t)))
+    (cases_Bool (ltb (position_or_len p xs) (length xs)))
+  where
+    none_is : (n : ℕ) → None ≡ Some n → ⊥
+    none_is n h = cc
 
-line_all : (s : ℕ) (bs : List ℕ) → 0 < length bs → ((k : ℕ) → k < length bs → get_or bs k 0 ≡ s → ⊥) → split s [] bs ≡ bs ∷ []
-line_all s [] some free = absurd (omega arith)
-line_all s (b ∷ []) some free = cond-false _ _ _ (ne_eqb b s (free 0 (omega arith)))
-line_all s (b ∷ c ∷ bs) some free =
-    cond-false _ _ _ (ne_eqb b s (free 0 (omega arith))) ∙ ap (onto b) (line_all s (c ∷ bs) (omega arith) (λ k lt. free (suc k) (omega arith)))
+before_all : (s : ℕ) (bs : List ℕ) → None ≡ position (λ b. eqb b s) bs → Before s bs (length bs)
+before_all s bs e k lt = none_passes (λ b. eqb b s) bs k 0 e lt
 
-module _ (s : ℕ) (bs : List ℕ) (p n : ℕ) (h : First s (drop p bs) n) where
-  long : p + n - p ≡ n
-  long = omega arith
+split_free : (s : ℕ) (bs : List ℕ) → Before s bs (length bs) → split s ([] ∷ []) bs ≡ bs ∷ []
+split_free s [] before = refl
+split_free s (b ∷ bs) before =
+    cond-false _ _ _ (before 0 (omega arith)) ∙ ap (onto b) (split_free s bs (λ k lt. before (suc k) (omega arith)))
 
-  pub line_more : n < length (drop p bs) → split s [] (drop p bs) ≡ between p (p + n) bs ∷ split s [] (drop (p + n + 1) bs)
-  line_more l =
+pub split_none : (s : ℕ) (bs : List ℕ) → None ≡ position (λ b. eqb b s) bs → split s ([] ∷ []) bs ≡ bs ∷ []
+split_none s bs e = split_free s bs (before_all s bs e)
+
+line_free : (s : ℕ) (bs : List ℕ) → 0 < length bs → Before s bs (length bs) → split s [] bs ≡ bs ∷ []
+line_free s [] some before = absurd (omega arith)
+line_free s (b ∷ []) some before = cond-false _ _ _ (before 0 (omega arith))
+line_free s (b ∷ c ∷ bs) some before =
+    cond-false _ _ _ (before 0 (omega arith)) ∙ ap (onto b) (line_free s (c ∷ bs) (omega arith) (λ k lt. before (suc k) (omega arith)))
+
+module _ (s : ℕ) (bs : List ℕ) (p : ℕ) where
+  pub line_some : (n : ℕ) → Some n ≡ position (λ b. eqb b s) (drop p bs) → split s [] (drop p bs) ≡ between p (p + n) bs ∷ split s [] (drop (p + n + 1) bs)
+  line_some n e =
+      let long : p + n - p ≡ n = omega arith in
       let after : p + n + 1 ≡ p + (n + 1) = omega arith in
-      rw (long, after, ← drop-drop (n + 1) p bs) (split_more s [] (drop p bs) n h l)
+      rw (long, after, ← drop-drop (n + 1) p bs) (split_some s [] (drop p bs) n e)
 
-  pub line_last : 0 < length (drop p bs) → length (drop p bs) ≤ n → split s [] (drop p bs) ≡ between p (p + n) bs ∷ split s [] (drop (p + n) bs)
-  line_last some l =
-      rw (long, ← drop-drop n p bs, drop_all n (drop p bs) l, take_all n (drop p bs) l)
-      (line_all s (drop p bs) some (λ k lt. h.before k (omega arith)))
+  pub line_none : 0 < length (drop p bs) → None ≡ position (λ b. eqb b s) (drop p bs) → split s [] (drop p bs) ≡ between p (length bs) bs ∷ split s [] (drop (length bs) bs)
+  line_none some e =
+      let rest = length-drop p bs in
+      rw (drop_all (length bs) bs (omega arith), take_all (length bs - p) (drop p bs) (omega arith)) (line_free s (drop p bs) some (before_all s (drop p bs) e))

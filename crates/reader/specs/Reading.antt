@@ -1,13 +1,9 @@
 -- What the bytes of a field are read as.
-use Rattle.std.specs.Prelude.{ℕ, ◌+◌, ◌-◌, ◌*◌, Bool, true, cond, ◌&&◌, List, [], ◌∷◌, length, Some, None, Option, nat_le}
+use Rattle.std.specs.Prelude.{ℕ, ◌+◌, ◌-◌, ◌*◌, Bool, cond, ◌&&◌, List, [], ◌∷◌, length, Some, None, Option, nat_le}
 use Rattle.std.specs.Char.{is_ascii_lowercase, is_ascii_digit}
+use Rattle.std.specs.List.{list_all}
 use Rattle.reader.specs.declared.field.Field.{Field}
 use Rattle.reader.specs.declared.field.Field.TheVariants.{Word, Number, Bad}
-
--- every byte passes the test
-abbrev pub all : (ℕ → Bool) → List ℕ → Bool
-all test [] = true
-all test (b ∷ bs) = test b && all test bs
 
 -- the number that the digits bs write, after n
 abbrev pub value_after : ℕ → List ℕ → ℕ
@@ -20,11 +16,11 @@ value_of bs = value_after 0 bs
 
 -- one or more lowercase letters
 abbrev pub is_word : List ℕ → Bool
-is_word bs = nat_le 1 (length bs) && all is_ascii_lowercase bs
+is_word bs = nat_le 1 (length bs) && list_all is_ascii_lowercase bs
 
 -- one to ten digits, of a value that fits 32 bits
 abbrev pub is_number : List ℕ → Bool
-is_number bs = nat_le 1 (length bs) && nat_le (length bs) 10 && all is_ascii_digit bs && nat_le (value_of bs) 4294967295
+is_number bs = nat_le 1 (length bs) && nat_le (length bs) 10 && list_all is_ascii_digit bs && nat_le (value_of bs) 4294967295
 
 -- a field's bytes, as what they are, with the value of a number
 pub data Reading : Type 0 where

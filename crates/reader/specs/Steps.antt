@@ -27,6 +27,10 @@ line_left r = bytes_some r.line
 abbrev pub line_number : Reader → ℕ
 line_number r = r.number
 
+-- the lines after the current one, and its number, stay as they were
+abbrev pub SameLine : Reader → Reader → Type 0
+SameLine r r' = (lines_left r' ≡ lines_left r) × (line_number r' ≡ line_number r)
+
 -- the step from r to line n leaves r'
 pub record ToLine (r : Reader) (n : ℕ) (r' : Reader) : Type 0 where
   pub was : lines_left r ≡ line_left r' ∷ lines_left r'
@@ -38,8 +42,7 @@ pub record ToLine (r : Reader) (n : ℕ) (r' : Reader) : Type 0 where
 pub record OverField (r : Reader) (f : Field) (r' : Reader) : Type 0 where
   pub was : fields_left r ≡ bytes_of f ∷ fields_left r'
   pub reads : meaning f ≡ reading (bytes_of f)
-  pub same_lines : lines_left r' ≡ lines_left r
-  pub same_number : line_number r' ≡ line_number r
+  pub line : SameLine r r'
 
 -- with no line left nothing changes
 abbrev pub NextLine : Reader → Option ℕ → Reader → Type 0

@@ -1,10 +1,11 @@
 // A field of a line, and what its bytes are read as.
 ghost use Rattle.std.specs.Prelude.{◌≡◌, ◌-◌, ◌≤◌, true, false, length, MatchOption};
 ghost use Rattle.std.specs.Char.{is_ascii_digit, is_ascii_lowercase};
+ghost use Rattle.std.specs.List.{list_all};
 ghost use Rattle.std.specs.Str.{bytes_eq};
-ghost use Rattle.reader.specs.Reading.{all, value_of, is_word, number_of, reading, meaning, bytes_of};
+ghost use Rattle.reader.specs.Reading.{value_of, is_word, number_of, reading, meaning, bytes_of};
 
-#[derive(Clone, Copy, Debug)]
+#[derive(Clone, Copy, Debug, PartialEq, Eq)]
 pub enum Field<'a> {
     Word(&'a [u8]),
     Number { digits: &'a [u8], value: u32 },
@@ -37,59 +38,38 @@ impl<'a> Field<'a> {
     }
 }
 
-// Whether a text is the word.
+// Whether a text is the word. A `match` compares with words that it names; this is for a word that the caller holds.
 pub fn same(text: &[u8], word: &[u8]) -> bool
     ensures { result ≡ bytes_eq text.now word.now }
 {
     text == word
 }
 
-fn is_letter(byte: u8) -> bool
-    ensures { result ≡ is_ascii_lowercase byte }
+fn are_letters(bytes: &[u8]) -> bool
+    ensures { result ≡ list_all is_ascii_lowercase bytes.now }
 {
-    byte.is_ascii_lowercase()
+    bytes.iter().all(|b| b.is_ascii_lowercase())
 }
 
 fn is_word(bytes: &[u8]) -> bool
     ensures { result ≡ is_word bytes.now }
 {
-    for b in bytes {
-        if !is_letter(*b) {
-            return false;
-        }
-    }
-    !bytes.is_empty()
+    !bytes.is_empty() && are_letters(bytes)
 }
 
-fn digit(byte: u8) -> Option<u64>
-    ensures { MatchOption result (is_ascii_digit byte ≡ false) (λ d. (is_ascii_digit byte ≡ true) × (d ≡ byte - 48)) }
+fn are_digits(bytes: &[u8]) -> bool
+    ensures { result ≡ list_all is_ascii_digit bytes.now }
 {
-    match byte {
-        b'0'..=b'9' => Some(u64::from(byte - b'0')),
-        _ => None,
-    }
+    bytes.iter().all(|b| b.is_ascii_digit())
 }
 
-// The value of at most ten digits.
-fn decimal(bytes: &[u8]) -> Option<u64>
-    requires { length bytes.now ≤ 10 }
-    ensures { MatchOption result (all is_ascii_digit bytes.now ≡ false) (λ n. (all is_ascii_digit bytes.now ≡ true) × (n ≡ value_of bytes.now)) }
-{
-    let mut value = 0;
-    for b in bytes {
-        value = value * 10 + digit(*b)?;
-    }
-    Some(value)
-}
-
+// The value of one to ten digits that fits 32 bits.
+#[tactic(auto, using(crate::proofs::Readings::utf8, crate::proofs::Readings::parsed))]
 fn number(bytes: &[u8]) -> Option<u32>
     ensures { result ≡ number_of bytes.now }
 {
-    if bytes.is_empty() || bytes.len() > 10 {
+    if bytes.len() > 10 || !are_digits(bytes) {
         return None;
     }
-    match decimal(bytes) {
-        Some(value) if value <= u64::from(u32::MAX) => Some(value as u32),
-        _ => None,
-    }
+    str::from_utf8(bytes).ok()?.parse().ok()
 }

@@ -2,25 +2,27 @@
 ghost use Rattle.std.specs.Prelude.{◌≡◌, ℕ, ◌<◌, ◌≤◌, length, IfOk, slice_index};
 ghost use Rattle.reader.specs.Numbers.{ranged, numbers_of, Placed};
 ghost use Rattle.reader.specs.Reading.{meaning};
-ghost use Rattle.reader.specs.Steps.{lines_left, fields_left, line_number};
+ghost use Rattle.reader.specs.Steps.{SameLine, fields_left};
 
 use crate::{Field, Reader};
 
 // Why the fields left of a line are not the numbers asked for. A number's place is counted from 0.
-#[derive(Clone, Copy, Debug)]
+#[derive(Clone, Copy, Debug, PartialEq, Eq)]
 pub enum NumbersFault {
     Missing(usize),
     Surplus,
     Bad(usize),
 }
 
-// The value of a field that is a number of at most `most`.
-fn value_within(field: Field<'_>, most: u32) -> Option<u32>
-    ensures { result ≡ ranged most (meaning field.entry) }
-{
-    match field {
-        Field::Number { value, .. } if value <= most => Some(value),
-        _ => None,
+impl Field<'_> {
+    // The value of a number of at most `most`.
+    fn number_up_to(self, most: u32) -> Option<u32>
+        ensures { result ≡ ranged most (meaning self.entry) }
+    {
+        match self {
+            Field::Number { value, .. } if value <= most => Some(value),
+            _ => None,
+        }
     }
 }
 
@@ -31,21 +33,18 @@ impl<'a> Reader<'a> {
         ensures long { IfOk result (λ ns. length ns ≡ N) }
         ensures small { IfOk result (λ ns. (i : ℕ) → i < N → slice_index ns i ≤ slice_index most.entry i) }
         ensures placed { Placed N result }
-        ensures lines { lines_left self.new ≡ lines_left self.old }
-        ensures number { line_number self.new ≡ line_number self.old }
+        ensures line { SameLine self.old self.new }
     {
         let mut found = [0; N];
         let mut bad = None;
-        for i in 0..N {
-            let Some(field) = self.next_field() else {
-                return Err(NumbersFault::Missing(i));
-            };
-            match value_within(field, most[i]) {
+        for (i, limit) in most.iter().enumerate() {
+            let field = self.next_field().ok_or(NumbersFault::Missing(i))?;
+            match field.number_up_to(*limit) {
                 Some(value) => found[i] = value,
                 None => bad = bad.or(Some(i)),
             }
         }
-        if let Some(_) = self.next_field() {
+        if self.next_field().is_some() {
             return Err(NumbersFault::Surplus);
         }
         match bad {

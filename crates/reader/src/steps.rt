@@ -1,13 +1,14 @@
 // The reader's steps: to the next line, and over the next field of it.
 ghost use Rattle.std.specs.Prelude.{◌≡◌, []};
 ghost use Rattle.reader.specs.Laws.{LinesLaw, FieldsLaw};
-ghost use Rattle.reader.specs.Split.{lines};
-ghost use Rattle.reader.specs.Steps.{lines_left, fields_left, line_number, NextLine, NextField};
+ghost use Rattle.reader.specs.Split.{lines, first_of, after_first};
+ghost use Rattle.reader.specs.Steps.{lines_left, fields_left, line_number, SameLine, NextLine, NextField};
 
 use crate::cut::{cut, ends};
 use crate::{Field, Reader};
 
 impl<'a> Reader<'a> {
+    #[tactic(auto, using(crate::proofs::Laws::lines_law, crate::proofs::Laws::fields_law))]
     pub fn new(text: &'a [u8]) -> Reader<'a>
         ensures lines { lines_left result ≡ lines text.now }
         ensures fields { fields_left result ≡ [] }
@@ -44,5 +45,14 @@ impl<'a> Reader<'a> {
         let (field, rest) = cut(self.line?, b',');
         self.line = rest;
         Some(Field::read(field))
+    }
+
+    // The bytes of the next field; none where no field is left.
+    pub fn next_bytes(&mut self) -> &'a [u8]
+        ensures value { result.now ≡ first_of (fields_left self.old) }
+        ensures rest { fields_left self.new ≡ after_first (fields_left self.old) }
+        ensures line { SameLine self.old self.new }
+    {
+        self.next_field().map_or(b"", Field::bytes)
     }
 }

@@ -16,11 +16,11 @@ fn two(text: &[u8]) -> Result<[u32; 2], NumbersFault> {
 
 #[test]
 fn numbers_of_a_line(rt: HostRuntime) {
-    assert!(rt; matches!(two(b"9,99\n1"), Ok(numbers) if numbers == [9, 99]));
-    assert!(rt; matches!(two(b"ten"), Err(NumbersFault::Missing(1))));
-    assert!(rt; matches!(two(b"10,x,1"), Err(NumbersFault::Surplus)));
-    assert!(rt; matches!(two(b"10,x"), Err(NumbersFault::Bad(0))));
-    assert!(rt; matches!(two(b"9,100"), Err(NumbersFault::Bad(1))));
+    assert_eq!(rt; two(b"9,99\n1"), Ok([9, 99]));
+    assert_eq!(rt; two(b"ten"), Err(NumbersFault::Missing(1)));
+    assert_eq!(rt; two(b"10,x,1"), Err(NumbersFault::Surplus));
+    assert_eq!(rt; two(b"10,x"), Err(NumbersFault::Bad(0)));
+    assert_eq!(rt; two(b"9,100"), Err(NumbersFault::Bad(1)));
 }
 
 #[test]
@@ -30,10 +30,10 @@ fn numbers_and_words(rt: HostRuntime) {
         (b"0000000042", 42),
         (b"4294967295", u32::MAX),
     ];
-    for (text, number) in numbers {
-        assert!(rt; matches!(first(text), Some(Field::Number { value, .. }) if value == number));
+    for (digits, value) in numbers {
+        assert_eq!(rt; first(digits), Some(Field::Number { digits, value }));
     }
-    assert!(rt; matches!(first(b"az"), Some(Field::Word(b"az"))));
+    assert_eq!(rt; first(b"az"), Some(Field::Word(b"az")));
 }
 
 #[test]
@@ -47,14 +47,14 @@ fn bad_fields(rt: HostRuntime) {
         b"\0",
     ];
     for text in bad {
-        assert!(rt; matches!(first(text), Some(Field::Bad(_))));
+        assert_eq!(rt; first(text), Some(Field::Bad(text)));
     }
 }
 
 #[test]
 fn no_lines(rt: HostRuntime) {
     let mut reader = Reader::new(b"");
-    assert!(rt; reader.next_field().is_none());
+    assert_eq!(rt; reader.next_field(), None);
     assert_eq!(rt; reader.next_line(), None);
 }
 
@@ -62,8 +62,8 @@ fn no_lines(rt: HostRuntime) {
 fn one_line_feed(rt: HostRuntime) {
     let mut reader = Reader::new(b"\n");
     assert_eq!(rt; reader.next_line(), Some(1));
-    assert!(rt; matches!(reader.next_field(), Some(Field::Bad(b""))));
-    assert!(rt; reader.next_field().is_none());
+    assert_eq!(rt; reader.next_field(), Some(Field::Bad(b"")));
+    assert_eq!(rt; reader.next_field(), None);
     assert_eq!(rt; reader.next_line(), None);
 }
 
@@ -72,10 +72,10 @@ fn last_line_open(rt: HostRuntime) {
     let mut reader = Reader::new(b"a,b\nc\r\nd,");
     assert_eq!(rt; reader.next_line(), Some(1));
     assert_eq!(rt; reader.next_line(), Some(2));
-    assert!(rt; matches!(reader.next_field(), Some(Field::Bad(b"c\r"))));
+    assert_eq!(rt; reader.next_field(), Some(Field::Bad(b"c\r")));
     assert_eq!(rt; reader.next_line(), Some(3));
-    assert!(rt; matches!(reader.next_field(), Some(Field::Word(b"d"))));
-    assert!(rt; matches!(reader.next_field(), Some(Field::Bad(b""))));
-    assert!(rt; reader.next_field().is_none());
+    assert_eq!(rt; reader.next_field(), Some(Field::Word(b"d")));
+    assert_eq!(rt; reader.next_field(), Some(Field::Bad(b"")));
+    assert_eq!(rt; reader.next_field(), None);
     assert_eq!(rt; reader.next_line(), None);
 }

@@ -1,4 +1,3 @@
-mod LinkLines
-mod Numbers
-mod Stops
-mod Tells
+pub mod LinkLines
+pub mod Numbers
+pub mod Stops

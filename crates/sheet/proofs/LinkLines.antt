@@ -1,13 +1,14 @@
 -- What a turn over the link lines keeps, and what the last one shows. Assumes nothing.
-use Rattle.std.proofs.Common.{◌≡◌, ℕ, ◌+◌, ◌<◌, ◌≤◌, List, [], ◌∷◌, ◌++◌, length, Ok, Err, Result, sym, refl, ap, ◌∙◌, append-nil, arith}
+use Rattle.std.proofs.Common.{◌≡◌, ℕ, ◌+◌, ◌<◌, ◌≤◌, List, [], ◌∷◌, ◌++◌, length, Ok, Err, sym, ap, ◌∙◌, append-nil, arith}
 use Rattle.std.proofs.lemmas.List.{length_push}
 use Rattle.std.proofs.lemmas.Bool.{cond-true, cond-false, le-leb, lt-leb, eq-eqb, ne_eqb}
+use Rattle.reader.specs.Numbers.{onto, then}
 use Rattle.reader.specs.Split.{fields}
+use Rattle.reader.proofs.LineNumbers.{before, before_nil, before_onto}
 use Rattle.sheet.specs.declared.fault.Cause.TheVariants.{TooManyLinks, NoLinks}
 use Rattle.sheet.specs.declared.fault.Fault.{Fault}
-use Rattle.sheet.specs.Line.{fault, onto}
-use Rattle.sheet.specs.Sheet.{then, link_line, link_lines}
-use Rattle.sheet.proofs.Numbers.{before, before_onto}
+use Rattle.sheet.specs.Line.{fault}
+use Rattle.sheet.specs.Sheet.{link_line, link_lines}
 
 module _ (width : ℕ) (all : List (List ℕ)) where
   -- the links of all the lines are those that were read, and those of the lines that are left
@@ -18,10 +19,6 @@ module _ (width : ℕ) (all : List (List ℕ)) where
 
   pub start : Sofar [] all 1
   start = record { few = omega arith; counts = omega arith; gives = sym (before_nil _) }
-    where
-      before_nil : {A : Type 0} (r : Result (List A) Fault) → before [] r ≡ r
-      before_nil (Ok ys) = refl
-      before_nil (Err f) = refl
 
   module _ (read left : List (List ℕ)) (number line : ℕ) (l : List ℕ) (rest : List (List ℕ)) (h : Sofar read left number) (was : left ≡ l ∷ rest) (here : line ≡ number + 1) where
     place : length read + 2 ≡ line

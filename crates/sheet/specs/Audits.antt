@@ -1,5 +1,5 @@
 -- What an audit says of a route. Assumes nothing.
-use Rattle.std.specs.Prelude.{◌≡◌, ℕ, ◌+◌, ◌<◌, ◌≤◌, Bool, true, false, List, map, length, take, Ok, Err, vec_items, Decides, Option, Result, MatchOption, slice_index, slice_index_or}
+use Rattle.std.specs.Prelude.{◌≡◌, ℕ, ◌+◌, ◌<◌, ◌≤◌, Bool, true, false, List, map, length, take, Ok, Err, vec_items, Decides, Option, Result, MatchOption, nat_lt, slice_index_or}
 use Rattle.kinds.specs.Arrivals.{Arrives, Late}
 use Rattle.kinds.specs.Budget.{budget_model}
 use Rattle.kinds.specs.Choices.{Choice, sum_under, WorstCase}
@@ -60,22 +60,13 @@ clock_uses us = map (λ u. u.first) us
 abbrev pub duct_uses : List Gate → List DuctUse
 duct_uses us = map (λ u. u.second) us
 
-abbrev pub closings : List Gate → List ℕ
-closings us = map (λ u. u.closes) (clock_uses us)
-
-abbrev pub times : List Stop → List ℕ
-times ss = map (λ s. s.first.time) ss
-
 -- the state after link i is that of the route up to it
 abbrev pub StopsOf : Pair Clock Ducts → List Gate → List Stop → Type 0
 StopsOf k us ss = (length ss ≡ length us) × ((i : ℕ) (d : Stop) → i < length us → slice_index_or ss i d ≡ along (pair_model clock_model ducts_model) k (take (i + 1) us))
 
--- the first place where a number stands below that of the other list
-abbrev pub FirstAbove : List ℕ → List ℕ → Option ℕ → Type 0
-FirstAbove low high r =
-    MatchOption r
-    ((i : ℕ) → i < length low → slice_index low i < slice_index high i → ⊥)
-    (λ i. (i < length low) × (slice_index low i < slice_index high i) × ((j : ℕ) → j < i → slice_index low j < slice_index high j → ⊥))
+-- whether a link's end is reached after its gate has closed
+abbrev pub late : Gate × Stop → Bool
+late (u, s) = nat_lt u.first.closes s.first.time
 
 -- what the audit says of the route up to link i
 pub record StopFacts (k : Pair Clock Ducts) (us : List Gate) (i : ℕ) (s : Stop) : Type 0 where

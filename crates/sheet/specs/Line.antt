@@ -1,6 +1,7 @@
 -- What the fields of one line say, or the first thing that is wrong with them. Assumes nothing.
-use Rattle.std.specs.Prelude.{ℕ, ◌+◌, cond, List, [], ◌∷◌, length, Some, None, Ok, Err, Option, Result, nat_le, nat_lt}
-use Rattle.reader.specs.Reading.{Reading, word, number, bad, reading}
+use Rattle.std.specs.Prelude.{ℕ, ◌+◌, cond, List, [], ◌∷◌, length, Some, None, Ok, Err, Option, Result, nat_lt}
+use Rattle.reader.specs.Numbers.{onto, ranged}
+use Rattle.reader.specs.Reading.{reading}
 use Rattle.sheet.specs.declared.fault.Cause.{Cause}
 use Rattle.sheet.specs.declared.fault.Cause.TheVariants.{MissingField, SurplusField, NotANumber}
 use Rattle.sheet.specs.declared.fault.Fault.{Fault}
@@ -8,26 +9,6 @@ use Rattle.sheet.specs.declared.fault.Fault.TheVariants.{At}
 
 abbrev pub fault : {A : Type 0} → (line field : ℕ) → Cause → Result A Fault
 fault line field cause = Err (At line field cause)
-
--- the first field of a line
-abbrev pub first_of : List (List ℕ) → List ℕ
-first_of [] = []
-first_of (f ∷ fs) = f
-
-abbrev pub after_first : List (List ℕ) → List (List ℕ)
-after_first [] = []
-after_first (f ∷ fs) = fs
-
--- x in front of a list that was read
-abbrev pub onto : {A : Type 0} → A → Result (List A) Fault → Result (List A) Fault
-onto x (Ok xs) = Ok (x ∷ xs)
-onto x (Err f) = Err f
-
--- a field that is a number of at most `most`
-abbrev pub ranged : ℕ → Reading → Option ℕ
-ranged most (word bs) = None
-ranged most (number bs n) = cond (nat_le n most) (Some n) None
-ranged most (bad bs) = None
 
 -- a number before those that follow it, or the fault of a field that is none
 abbrev pub placed : (line field most : ℕ) → Option ℕ → Result (List ℕ) Fault → Result (List ℕ) Fault

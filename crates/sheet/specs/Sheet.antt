@@ -1,17 +1,13 @@
 -- What a sheet says, or the first thing that is wrong with it. Assumes nothing.
-use Rattle.std.specs.Prelude.{ℕ, ◌+◌, cond, List, [], ◌∷◌, replicate, Ok, Err, Result, ◌==◌, nat_le, slice_index}
-use Rattle.reader.specs.Split.{lines, fields}
+use Rattle.std.specs.Prelude.{ℕ, ◌+◌, cond, List, [], ◌∷◌, replicate, Some, None, Ok, Option, Result, ◌==◌, nat_le, slice_index}
+use Rattle.reader.specs.Numbers.{onto, then}
+use Rattle.reader.specs.Split.{lines, fields, first_of, after_first}
 use Rattle.sheet.specs.Words.{word_of}
-use Rattle.sheet.specs.Line.{fault, first_of, after_first, onto, numbers_of}
+use Rattle.sheet.specs.Line.{fault, numbers_of}
 use Rattle.sheet.specs.declared.fault.Cause.TheVariants.{EmptySheet, UnknownSheet, AllowanceAboveEight, TooManyLinks, NotALink, NoLinks}
 use Rattle.sheet.specs.declared.fault.Fault.{Fault}
 use Rattle.sheet.specs.declared.word.Word.{Word}
-use Rattle.sheet.specs.declared.word.Word.TheVariants.{Budget, Gated, Link, Other}
-
--- what follows from what was read, or the fault
-abbrev pub then : {A B : Type 0} → Result A Fault → (A → Result B Fault) → Result B Fault
-then (Ok x) f = f x
-then (Err e) f = Err e
+use Rattle.sheet.specs.declared.word.Word.TheVariants.{Budget, Gated, Link}
 
 -- the largest number of 16 bits
 abbrev pub narrow : ℕ
@@ -22,11 +18,11 @@ abbrev pub wide : ℕ
 wide = 4294967295
 
 -- the numbers after a line's first word, which is to be `link`
-abbrev pub link_by : Word → (width line : ℕ) → List (List ℕ) → Result (List ℕ) Fault
-link_by Budget width line fs = fault line 1 NotALink
-link_by Gated width line fs = fault line 1 NotALink
-link_by Link width line fs = numbers_of line (replicate width narrow) fs
-link_by Other width line fs = fault line 1 NotALink
+abbrev pub link_by : Option Word → (width line : ℕ) → List (List ℕ) → Result (List ℕ) Fault
+link_by (Some Budget) width line fs = fault line 1 NotALink
+link_by (Some Gated) width line fs = fault line 1 NotALink
+link_by (Some Link) width line fs = numbers_of line (replicate width narrow) fs
+link_by None width line fs = fault line 1 NotALink
 
 -- a link's line: the word `link`, and as many numbers as the width
 abbrev pub link_line : (width line : ℕ) → List (List ℕ) → Result (List ℕ) Fault
@@ -53,11 +49,11 @@ abbrev pub gated_heading : List ℕ → Result Heading Fault
 gated_heading ns = Ok (gated (slice_index ns 0))
 
 -- the numbers after a first line's word, which is to be `budget` or `gated`
-abbrev pub heading_by : Word → List (List ℕ) → Result Heading Fault
-heading_by Budget fs = then (numbers_of 1 (narrow ∷ wide ∷ []) fs) budget_heading
-heading_by Gated fs = then (numbers_of 1 (narrow ∷ []) fs) gated_heading
-heading_by Link fs = fault 1 1 UnknownSheet
-heading_by Other fs = fault 1 1 UnknownSheet
+abbrev pub heading_by : Option Word → List (List ℕ) → Result Heading Fault
+heading_by (Some Budget) fs = then (numbers_of 1 (narrow ∷ wide ∷ []) fs) budget_heading
+heading_by (Some Gated) fs = then (numbers_of 1 (narrow ∷ []) fs) gated_heading
+heading_by (Some Link) fs = fault 1 1 UnknownSheet
+heading_by None fs = fault 1 1 UnknownSheet
 
 -- the first line: `budget` with an allowance and a limit, or `gated` with a start
 abbrev pub heading_of : List (List ℕ) → Result Heading Fault

@@ -11,8 +11,8 @@ pub enum Audit {
     Gated(GatedAudit),
 }
 
-// How far a total stays below its limit, or passes it.
-#[derive(Clone, Copy, Debug)]
+// How far a total stays below its limit, or passes it. No `Result`: neither is an error, and the names say which it is.
+#[derive(Clone, Copy, Debug, PartialEq, Eq)]
 pub enum Margin {
     Spare(u32),
     Over(u32),
@@ -30,7 +30,7 @@ pub struct BudgetAudit {
 pub struct GatedAudit {
     pub kind: Pair<Clock, Ducts>,
     pub links: Vec<Gate>,
-    // The state after each link.
+    // The state after each link. The links are moved in as they were read: pairs of both would be a second list of them.
     pub stops: Vec<Stop>,
     pub verdict: Verdict,
 }

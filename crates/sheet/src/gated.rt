@@ -1,10 +1,7 @@
 // The audit of a route with time gates and ducts.
-ghost use Rattle.std.specs.Prelude.{◌≡◌, ◌+◌, ◌<◌, ◌≤◌, length, take, vec_len, MatchResult, nat_lt};
-ghost use Rattle.kinds.specs.Clock.{clock_model};
-ghost use Rattle.kinds.specs.Ducts.{ducts_model};
-ghost use Rattle.kinds.specs.Kinds.{along};
-ghost use Rattle.kinds.specs.Pair.{pair_model};
-ghost use Rattle.sheet.specs.Audits.{StopsOf, FirstAbove, GatedFacts, closings, times};
+ghost use Rattle.std.specs.Prelude.{◌≡◌, ◌≤◌, length, position, vec_len, MatchResult, nat_lt};
+ghost use Rattle.std.specs.List.{zip};
+ghost use Rattle.sheet.specs.Audits.{StopsOf, GatedFacts, late};
 ghost use Rattle.sheet.specs.declared.fault.Fault.TheVariants.{NoMemory};
 
 use crate::audits::{GatedAudit, Stop, Verdict};
@@ -13,21 +10,15 @@ use crate::link::Gate;
 use kinds::{Clock, Ducts, Kind, Pair};
 use std::alloc::Global;
 
-// The state after link i, counted from 0.
-fn stop_after(kind: &Pair<Clock, Ducts>, links: &[Gate], i: usize) -> Stop
-    requires { i < length links.now }
-    ensures { result ≡ along (pair_model clock_model ducts_model) kind.now (take (i + 1) links.now) }
-{
-    kind.both_along(&links[0..i + 1])
-}
-
 // The state after each link.
 fn stops_of(heap: Global, kind: &Pair<Clock, Ducts>, links: &[Gate]) -> Result<Vec<Stop>, Fault>
     ensures { MatchResult result (λ v. StopsOf kind.now links.now v.items) (λ f. f ≡ NoMemory) }
 {
     let mut stops = Vec::new(heap);
-    for i in 0..links.len() {
-        stops.push(stop_after(kind, links, i))?;
+    let mut state = kind.start();
+    for link in links {
+        state = kind.extend(&state, link);
+        stops.push(state)?;
     }
     Ok(stops)
 }
@@ -41,15 +32,12 @@ pub fn is_late(link: &Gate, stop: &Stop) -> bool
 
 // The first link that is reached too late.
 fn first_missed(links: &[Gate], stops: &[Stop]) -> Option<usize>
-    requires { length stops.now ≡ length links.now }
-    ensures { FirstAbove (closings links.now) (times stops.now) result }
+    ensures { result ≡ position late (zip links.now stops.now) }
 {
-    for i in 0..links.len() {
-        if is_late(&links[i], &stops[i]) {
-            return Some(i);
-        }
-    }
-    None
+    links
+        .iter()
+        .zip(stops)
+        .position(|(link, stop)| is_late(link, stop))
 }
 
 fn verdict_of(kind: &Pair<Clock, Ducts>, links: &[Gate], stops: &[Stop]) -> Verdict

@@ -31,13 +31,9 @@ pub fn audit(heap: Global, text: &[u8]) -> Result<Audit, Fault>
     ensures { Audited text.now result }
 {
     let mut reader = Reader::new(text);
-    let Some(_) = reader.next_line() else {
-        return Err(Fault::At {
-            line: 1,
-            field: 1,
-            cause: Cause::EmptySheet,
-        });
-    };
+    reader
+        .next_line()
+        .ok_or(Fault::at(1, 1, Cause::EmptySheet))?;
     match read_head(&mut reader)? {
         Head::Budget(budget) => {
             let found = links(heap, &mut reader)?;

@@ -1,37 +1,13 @@
-// One line of a sheet: its first word, and the numbers after it.
+// The numbers of a line, after its first word.
 ghost use Rattle.std.specs.Prelude.{◌≡◌, ℕ, ◌<◌, ◌≤◌, length, IfOk, slice_index};
-ghost use Rattle.reader.specs.Reading.{meaning};
-ghost use Rattle.reader.specs.Steps.{lines_left, fields_left, line_number};
-ghost use Rattle.sheet.specs.Line.{first_of, after_first, ranged, numbers_of};
-ghost use Rattle.sheet.specs.Words.{word_of};
+ghost use Rattle.reader.specs.Steps.{SameLine, fields_left};
+ghost use Rattle.sheet.specs.Line.{numbers_of};
 
 use crate::fault::{Cause, Fault};
-use crate::word::{Word, read_word};
-use reader::{Field, Reader};
-
-// The word that the line begins with.
-pub fn first_word(reader: &mut Reader<'_>) -> Word
-    ensures value { result ≡ word_of (first_of (fields_left reader.old)) }
-    ensures rest { fields_left reader.new ≡ after_first (fields_left reader.old) }
-    ensures lines { lines_left reader.new ≡ lines_left reader.old }
-    ensures number { line_number reader.new ≡ line_number reader.old }
-{
-    match reader.next_field() {
-        Some(field) => read_word(field.bytes()),
-        None => Word::Other,
-    }
-}
-
-fn number(field: Field<'_>, most: u32) -> Option<u32>
-    ensures { result ≡ ranged most (meaning field.entry) }
-{
-    match field {
-        Field::Number { value, .. } if value <= most => Some(value),
-        _ => None,
-    }
-}
+use reader::{NumbersFault, Reader};
 
 // The numbers after a line's first field: one for each of `most`, and at most that large.
+#[tactic(auto, using(crate::proofs::Numbers::numbers_read))]
 pub fn numbers<const N: usize>(
     reader: &mut Reader<'_>,
     line: usize,
@@ -41,38 +17,14 @@ pub fn numbers<const N: usize>(
     ensures told { result ≡ numbers_of line most.entry (fields_left reader.old) }
     ensures long { IfOk result (λ ns. length ns ≡ N) }
     ensures small { IfOk result (λ ns. (i : ℕ) → i < N → slice_index ns i ≤ slice_index most.entry i) }
-    ensures lines { lines_left reader.new ≡ lines_left reader.old }
-    ensures number { line_number reader.new ≡ line_number reader.old }
+    ensures same { SameLine reader.old reader.new }
 {
-    let mut found = [0; N];
-    let mut fault = None;
-    for i in 0..N {
-        let field = i + 2;
-        let Some(text) = reader.next_field() else {
-            return Err(Fault::At {
-                line,
-                field,
-                cause: Cause::MissingField,
-            });
-        };
-        match number(text, most[i]) {
-            Some(value) => found[i] = value,
-            None => fault = fault.or(Some(Fault::At {
-                line,
-                field,
-                cause: Cause::NotANumber { most: most[i] },
-            })),
+    match reader.next_numbers(most) {
+        Ok(found) => Ok(found),
+        Err(NumbersFault::Missing(i)) => Err(Fault::at(line, i + 2, Cause::MissingField)),
+        Err(NumbersFault::Surplus) => Err(Fault::at(line, N + 2, Cause::SurplusField)),
+        Err(NumbersFault::Bad(i)) => {
+            Err(Fault::at(line, i + 2, Cause::NotANumber { most: most[i] }))
         }
-    }
-    if let Some(_) = reader.next_field() {
-        return Err(Fault::At {
-            line,
-            field: N + 2,
-            cause: Cause::SurplusField,
-        });
-    }
-    match fault {
-        Some(fault) => Err(fault),
-        None => Ok(found),
     }
 }

@@ -1,13 +1,13 @@
 // A link's line, and the two kinds of link that it can tell.
 ghost use Rattle.std.specs.Prelude.{◌≡◌, ℕ, ◌<◌, ◌≤◌, List, map, IfOk, slice_index};
 ghost use Rattle.std.specs.List.{range_with_len};
-ghost use Rattle.reader.specs.Steps.{lines_left, fields_left, line_number};
+ghost use Rattle.reader.specs.Steps.{SameLine, fields_left};
 ghost use Rattle.sheet.specs.Figures.{budget_figures, gate_figures};
 ghost use Rattle.sheet.specs.Sheet.{link_line};
 ghost use Rattle.sheet.specs.Told.{Tells};
 
 use crate::fault::{Cause, Fault};
-use crate::line::{first_word, numbers};
+use crate::line::numbers;
 use crate::word::Word;
 use kinds::{BudgetUse, ClockUse, DuctUse, PairUse};
 use reader::Reader;
@@ -23,25 +23,18 @@ pub trait Link: Copy {
 
     fn read(reader: &mut Reader<'_>, line: usize) -> Result<Self, Fault>
         ensures told { Tells figures result (link_line width line (fields_left reader.old)) }
-        ensures lines { lines_left reader.new ≡ lines_left reader.old }
-        ensures number { line_number reader.new ≡ line_number reader.old };
+        ensures same { SameLine reader.old reader.new };
 }
 
 // The numbers of a link's line, each of at most 16 bits.
 fn link_numbers<const N: usize>(reader: &mut Reader<'_>, line: usize) -> Result<[u32; N], Fault>
     requires { N < 16 }
     ensures told { result ≡ link_line N line (fields_left reader.old) }
-    ensures listed { IfOk result (λ ns. ns ≡ map (λ i. slice_index ns i) (range_with_len 0 N)) }
     ensures small { IfOk result (λ ns. (i : ℕ) → i < N → slice_index ns i ≤ 65535) }
-    ensures lines { lines_left reader.new ≡ lines_left reader.old }
-    ensures number { line_number reader.new ≡ line_number reader.old }
+    ensures same { SameLine reader.old reader.new }
 {
-    let Word::Link = first_word(reader) else {
-        return Err(Fault::At {
-            line,
-            field: 1,
-            cause: Cause::NotALink,
-        });
+    let Some(Word::Link) = Word::read(reader.next_bytes()) else {
+        return Err(Fault::at(line, 1, Cause::NotALink));
     };
     numbers(reader, line, [65535; N])
 }

@@ -8,11 +8,5 @@ pub fn worked_sheets() -> usize
     ensures hold { AllByRecursion Holds rows }
     ensures count { result ≡ length rows }
 {
-    row_count()
-}
-
-fn row_count() -> usize
-    ensures { result ≡ length rows }
-{
     15
 }

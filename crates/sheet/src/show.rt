@@ -1,35 +1,9 @@
-// Audits and faults as text.
+// Audits as text.
 use crate::audits::{Audit, BudgetAudit, GatedAudit, Margin, Stop};
-use crate::fault::{Cause, Fault};
 use crate::gated::is_late;
 use crate::link::Gate;
 use kinds::{BudgetUse, Kind};
 use std::fmt;
-
-impl fmt::Display for Cause {
-    fn fmt<W: fmt::Write>(&self, f: &mut fmt::Formatter<W>) -> fmt::Result {
-        match *self {
-            Cause::EmptySheet => write!(f, "the sheet is empty"),
-            Cause::UnknownSheet => write!(f, "a sheet begins with the word budget or gated"),
-            Cause::MissingField => write!(f, "a field is missing"),
-            Cause::SurplusField => write!(f, "a field too many"),
-            Cause::NotANumber { most } => write!(f, "not a number up to {most}"),
-            Cause::AllowanceAboveEight => write!(f, "the allowance is above 8"),
-            Cause::TooManyLinks => write!(f, "a sheet has at most 16 links"),
-            Cause::NotALink => write!(f, "a line after the first begins with the word link"),
-            Cause::NoLinks => write!(f, "a sheet has at least one link"),
-        }
-    }
-}
-
-impl fmt::Display for Fault {
-    fn fmt<W: fmt::Write>(&self, f: &mut fmt::Formatter<W>) -> fmt::Result {
-        match *self {
-            Fault::At { line, field, cause } => write!(f, "line {line}, field {field}: {cause}"),
-            Fault::NoMemory => write!(f, "there is not enough memory for the sheet"),
-        }
-    }
-}
 
 impl fmt::Display for Audit {
     fn fmt<W: fmt::Write>(&self, f: &mut fmt::Formatter<W>) -> fmt::Result {
@@ -61,11 +35,11 @@ fn show_totals<W: fmt::Write>(totals: &[u32], f: &mut fmt::Formatter<W>) -> fmt:
 
 impl fmt::Display for BudgetAudit {
     fn fmt<W: fmt::Write>(&self, f: &mut fmt::Formatter<W>) -> fmt::Result {
-        let rows = usize::from(self.budget.allowance) + 1;
+        let allowance = usize::from(self.budget.allowance);
         let limit = self.budget.limit;
         show_links(&self.links, f)?;
         writeln!(f)?;
-        show_totals(&self.state.worst[0..rows], f)?;
+        show_totals(&self.state.worst[..=allowance], f)?;
         writeln!(f)?;
         match self.margin {
             Margin::Spare(spare) => write!(f, "within the limit {limit}: {spare} to spare"),

@@ -1,30 +1,12 @@
-use Rattle.std.proofs.Common.{drop, subst, arith, length-drop}
+use Rattle.std.proofs.Common.{arith, length-drop}
 use Rattle.std.proofs.lemmas.List.{take_rest}
-use Rattle.reader.proofs.Splits.{First, line_more, line_last}
+use Rattle.reader.proofs.Splits.{line_some, line_none}
 use Rattle.reader.proofs.cut.ends.Goals as goal
-use Rattle.reader.proofs.cut.ends.Goals.{After-find}
 
-first : (c : After-find) → First c.args.byte (drop c.args.place c.args.text.now) c.find.result
-first c =
-    let found = c.find.ensures in
-    subst (λ l. First c.args.byte l c.find.result) (take_rest c.args.text.now c.args.place) (record { within = found.within; before = found.before; found = found.found })
+pub returns-in-Some-clause-parted : goal.returns-in-Some-clause-parted
+returns-in-Some-clause-parted c = line_some _ _ _ _ (simp take_rest at c.in-Some.ensures)
 
-pub returns-then-end-text : goal.returns-then-end-text
-returns-then-end-text c =
-    let h = first (goal.at.returns-then-end-text c).After-find in
+pub returns-in-None-clause-parted : goal.returns-in-None-clause-parted
+returns-in-None-clause-parted c =
     let rest = length-drop c.args.place c.args.text.now in
-    record {
-      end = (omega arith, omega arith);
-      next = (omega arith, omega arith);
-      parted = line_more c.args.byte c.args.text.now c.args.place c.find.result h (omega arith);
-    }
-
-pub returns-else-end-text : goal.returns-else-end-text
-returns-else-end-text c =
-    let h = first (goal.at.returns-else-end-text c).After-find in
-    let rest = length-drop c.args.place c.args.text.now in
-    record {
-      end = (omega arith, omega arith);
-      next = (omega arith, omega (arith, h.within));
-      parted = line_last c.args.byte c.args.text.now c.args.place c.find.result h (omega arith) (omega arith);
-    }
+    line_none c.args.byte c.args.text.now c.args.place (omega arith) (simp take_rest at c.in-None.ensures)

@@ -1,5 +1,10 @@
-use Rattle.sheet.proofs.Stops.{one_more}
+use Rattle.sheet.proofs.Stops.{state_more, one_more}
 use Rattle.sheet.proofs.gated.stops_of.Goals as goal
 
-pub loop-i-preserved : goal.loop-i-preserved
-loop-i-preserved c = one_more c.args.kind.now c.args.links.now _ _ _ _ c.loop-i.invariant c.in_ok-push.ensures.items c.stop_after.ensures
+pub loop-link-preserved : goal.loop-link-preserved
+loop-link-preserved c =
+    let state = state_more c.args.kind.now c.args.links.now _ _ _ _ c.loop-link-test.true c.link-item.is c.loop-link.invariant.state c.extend-state.ensures in
+    record {
+      stops = one_more c.args.kind.now c.args.links.now _ _ _ _ c.loop-link.invariant.stops c.in_ok-push.ensures.items state;
+      state = state;
+    }

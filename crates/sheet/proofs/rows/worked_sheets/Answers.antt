@@ -1,8 +1,6 @@
 use Rattle.std.proofs.Common.{refl}
 use Rattle.sheet.proofs.rows.worked_sheets.Goals as goal
 
-pub returns : goal.returns
-returns c = record {
-  hold = (refl, (refl, (refl, (refl, (refl, (refl, (refl, (refl, (refl, (refl, (refl, (refl, (refl, (refl, (refl, tt)))))))))))))));
-  count = c.row_count.ensures;
-}
+pub returns-clause-hold : goal.returns-clause-hold
+returns-clause-hold c =
+    (refl, (refl, (refl, (refl, (refl, (refl, (refl, (refl, (refl, (refl, (refl, (refl, (refl, (refl, (refl, tt)))))))))))))))
