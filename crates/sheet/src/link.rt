@@ -33,10 +33,11 @@ fn link_numbers<const N: usize>(reader: &mut Reader<'_>) -> Result<[u32; N], Fau
     ensures small { IfOk result (λ ns. (i : ℕ) → i < N → slice_index ns i ≤ 65535) }
     ensures same { SameLine reader.old reader.new }
 {
+    let line = reader.line_number();
     let Some(Word::Link) = Word::read(reader.next_bytes()) else {
-        return Err(Fault::at(reader.line_number(), 1, Cause::NotALink));
+        return Err(Fault::at(line, 1, Cause::NotALink));
     };
-    numbers(reader, [65535; N])
+    numbers(reader, line, [65535; N])
 }
 
 impl Link for BudgetUse {
