@@ -1,7 +1,7 @@
 // What a search answers.
 
 // The label answered, with its figure and hops, and how many labels there are.
-#[derive(Clone, Copy)]
+#[derive(Clone, Copy, Debug, PartialEq, Eq)]
 pub struct Found {
     pub label: usize,
     pub figure: u32,

@@ -20,8 +20,8 @@ pub struct Label<S> {
     pub link: u16,
 }
 
-// The labels made so far, in the first places of a lent table. No `SliceVec`, whose model hides the loan: after it ends,
-// no proof knows what the table holds.
+// The labels made so far, in the first places of a lent table. Not a `SliceVec`, as its model hides the reference, and no
+// proof would know what the table holds when the loan ends.
 #[derive(Drop)]
 pub struct Labels<'a, S: Copy> {
     pub(crate) count: usize,
@@ -29,7 +29,7 @@ pub struct Labels<'a, S: Copy> {
     ghost within: { count ≤ length places.now },
 }
 
-// A label that is taken, with its number. A route may have a link more than it has.
+// A label that is taken, with its number. It has fewer links than a route may have, so one more can be counted.
 #[derive(Drop)]
 pub struct Taken<S: Copy> {
     pub number: usize,
