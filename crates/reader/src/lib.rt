@@ -5,6 +5,7 @@ ghost use Rattle.std.specs.Prelude.{◌≤◌, length};
 
 mod cut;
 mod field;
+mod line;
 mod numbers;
 mod steps;
 #[cfg(test)]

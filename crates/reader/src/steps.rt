@@ -1,11 +1,11 @@
-// The reader's steps: to the next line, and over the next field of it.
+// Where a reader begins, and its step to the next line.
 ghost use Rattle.std.specs.Prelude.{◌≡◌, []};
 ghost use Rattle.reader.specs.Laws.{LinesLaw, FieldsLaw};
-ghost use Rattle.reader.specs.Split.{lines, first_of, after_first};
-ghost use Rattle.reader.specs.Steps.{lines_left, fields_left, line_number, SameLine, NextLine, NextField};
+ghost use Rattle.reader.specs.Split.{lines};
+ghost use Rattle.reader.specs.Steps.{lines_left, fields_left, line_number, NextLine};
 
-use crate::cut::{cut, ends};
-use crate::{Field, Reader};
+use crate::Reader;
+use crate::cut::ends;
 
 impl<'a> Reader<'a> {
     #[tactic(auto, using(crate::proofs::Laws::lines_law, crate::proofs::Laws::fields_law))]
@@ -36,23 +36,5 @@ impl<'a> Reader<'a> {
         self.place = next;
         self.number += 1;
         Some(self.number)
-    }
-
-    // The next field of the current line.
-    pub fn next_field(&mut self) -> Option<Field<'a>>
-        ensures step { NextField self.old result self.new }
-    {
-        let (field, rest) = cut(self.line?, b',');
-        self.line = rest;
-        Some(Field::read(field))
-    }
-
-    // The bytes of the next field; none where no field is left.
-    pub fn next_bytes(&mut self) -> &'a [u8]
-        ensures value { result.now ≡ first_of (fields_left self.old) }
-        ensures rest { fields_left self.new ≡ after_first (fields_left self.old) }
-        ensures line { SameLine self.old self.new }
-    {
-        self.next_field().map_or(b"", Field::bytes)
     }
 }

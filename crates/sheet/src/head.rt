@@ -1,6 +1,6 @@
 // The first line of a sheet.
 ghost use Rattle.std.specs.Prelude.{◌≡◌};
-ghost use Rattle.reader.specs.Steps.{SameLine, fields_left};
+ghost use Rattle.reader.specs.Steps.{SameLine, fields_left, line_number};
 ghost use Rattle.sheet.specs.Heads.{heading};
 ghost use Rattle.sheet.specs.Sheet.{heading_of};
 ghost use Rattle.sheet.specs.Told.{Tells};
@@ -18,16 +18,17 @@ pub enum Head {
 
 // What the sheet's first line asks.
 pub fn read_head(reader: &mut Reader<'_>) -> Result<Head, Fault>
+    requires { line_number reader.old ≡ 1 }
     ensures told { Tells heading result (heading_of (fields_left reader.old)) }
     ensures same { SameLine reader.old reader.new }
 {
     match Word::read(reader.next_bytes()) {
         Some(Word::Budget) => {
-            let [allowance, limit] = numbers(reader, 1, [65535, u32::MAX])?;
+            let [allowance, limit] = numbers(reader, [65535, u32::MAX])?;
             Ok(Head::Budget(Budget::new(allowance as u16, limit)?))
         }
         Some(Word::Gated) => {
-            let [start] = numbers(reader, 1, [65535])?;
+            let [start] = numbers(reader, [65535])?;
             Ok(Head::Gated(Clock {
                 start: start as u16,
             }))

@@ -1,7 +1,7 @@
 // A link's line, and the two kinds of link that it can tell.
 ghost use Rattle.std.specs.Prelude.{◌≡◌, ℕ, ◌<◌, ◌≤◌, List, map, IfOk, slice_index};
 ghost use Rattle.std.specs.List.{range_with_len};
-ghost use Rattle.reader.specs.Steps.{SameLine, fields_left};
+ghost use Rattle.reader.specs.Steps.{SameLine, fields_left, line_number};
 ghost use Rattle.sheet.specs.Figures.{budget_figures, gate_figures};
 ghost use Rattle.sheet.specs.Sheet.{link_line};
 ghost use Rattle.sheet.specs.Told.{Tells};
@@ -21,22 +21,22 @@ pub trait Link: Copy {
 
     ghost figures: { Self → List ℕ };
 
-    fn read(reader: &mut Reader<'_>, line: usize) -> Result<Self, Fault>
-        ensures told { Tells figures result (link_line width line (fields_left reader.old)) }
+    fn read(reader: &mut Reader<'_>) -> Result<Self, Fault>
+        ensures told { Tells figures result (link_line width (line_number reader.old) (fields_left reader.old)) }
         ensures same { SameLine reader.old reader.new };
 }
 
 // The numbers of a link's line, each of at most 16 bits.
-fn link_numbers<const N: usize>(reader: &mut Reader<'_>, line: usize) -> Result<[u32; N], Fault>
+fn link_numbers<const N: usize>(reader: &mut Reader<'_>) -> Result<[u32; N], Fault>
     requires { N < 16 }
-    ensures told { result ≡ link_line N line (fields_left reader.old) }
+    ensures told { result ≡ link_line N (line_number reader.old) (fields_left reader.old) }
     ensures small { IfOk result (λ ns. (i : ℕ) → i < N → slice_index ns i ≤ 65535) }
     ensures same { SameLine reader.old reader.new }
 {
     let Some(Word::Link) = Word::read(reader.next_bytes()) else {
-        return Err(Fault::at(line, 1, Cause::NotALink));
+        return Err(Fault::at(reader.line_number(), 1, Cause::NotALink));
     };
-    numbers(reader, line, [65535; N])
+    numbers(reader, [65535; N])
 }
 
 impl Link for BudgetUse {
@@ -44,8 +44,8 @@ impl Link for BudgetUse {
 
     ghost figures = { budget_figures };
 
-    fn read(reader: &mut Reader<'_>, line: usize) -> Result<BudgetUse, Fault> {
-        let [nominal, extra] = link_numbers::<2>(reader, line)?;
+    fn read(reader: &mut Reader<'_>) -> Result<BudgetUse, Fault> {
+        let [nominal, extra] = link_numbers::<2>(reader)?;
         Ok(BudgetUse {
             nominal: nominal as u16,
             extra: extra as u16,
@@ -58,8 +58,8 @@ impl Link for PairUse<ClockUse, DuctUse> {
 
     ghost figures = { gate_figures };
 
-    fn read(reader: &mut Reader<'_>, line: usize) -> Result<Gate, Fault> {
-        let [travel, opens, closes, duct] = link_numbers::<4>(reader, line)?;
+    fn read(reader: &mut Reader<'_>) -> Result<Gate, Fault> {
+        let [travel, opens, closes, duct] = link_numbers::<4>(reader)?;
         Ok(PairUse {
             first: ClockUse {
                 travel: travel as u16,

@@ -21,7 +21,7 @@ pub fn links<L: Link>(heap: Global, reader: &mut Reader<'_>) -> Result<Vec<L>, F
         if links.len() >= 16 {
             return Err(Fault::at(line, 1, Cause::TooManyLinks));
         }
-        links.push(L::read(reader, line)?)?;
+        links.push(L::read(reader)?)?;
     }
     if links.is_empty() {
         return Err(Fault::at(2, 1, Cause::NoLinks));
