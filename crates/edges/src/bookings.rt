@@ -33,6 +33,7 @@ fn should_get(call: &'static str, number: u16) -> Expected
     Expected { call, number }
 }
 
+// The links and limits of this program are its own, as those of `planner` are: two examples need no crate between them.
 // A link of capacity 100 that costs 2, with a delay of 3 and 5 more at its worst.
 fn link(tail: u16, head: u16) -> Link<Take>
     ensures { (result.tail ≡ tail) × ((result.head ≡ head) × (result.capacity ≡ 100)) }

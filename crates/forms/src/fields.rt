@@ -30,7 +30,7 @@ pub fn numbers<const N: usize>(
     })
 }
 
-// One number of 16 bits.
+// One number of 16 bits. The cast loses nothing, which is proved; a `try_from` would add a fault that no line can have.
 pub fn number(reader: &mut Reader<'_>) -> Result<u16, LineFault>
     ensures told { read_as result ≡ one_number (fields_left reader.old) }
     ensures line { SameLine reader.old reader.new }

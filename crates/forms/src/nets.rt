@@ -44,6 +44,7 @@ fn checked_net(site: SiteName, nodes: u16) -> Result<NetOrder, LineFault>
     Ok(NetOrder { site, nodes })
 }
 
+// The faults in their order; the node count has 16 bits, which is proved.
 fn net_by(
     name: Option<SiteName>,
     nodes: Result<[u32; 1], NumbersFault>,

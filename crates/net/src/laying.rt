@@ -59,6 +59,7 @@ impl<'a, K: Kind> Laying<'a, K> {
     {
         check_ends(self.nodes, &link)?;
         let number = self.links.push(link).ok_or(NetFault::LinksFull)?;
+        // It is below 512, which is proved; a `try_from` would add a fault that cannot be.
         Ok(number as u16)
     }
 

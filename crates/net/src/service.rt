@@ -144,6 +144,7 @@ impl<'a, K: Kind> Service<'a, K> {
         )?;
         // A place is free: it was asked for.
         let _ = book.streams.push(record_of(request, &found, labels));
+        // A count has 64 bits here; there is no `From` between the two types.
         Ok((found.figure, found.hops, found.count as u64))
     }
 

@@ -20,14 +20,16 @@ pub struct Laying<'a, K: Kind> {
     pub(crate) links: Links<'a, K::Use>,
 }
 
-// A net in service: streams may be booked and released.
+// A net in service: streams may be booked and released. It has the fields of a net being laid, and is a type of its own,
+// so that each takes only its own calls.
 #[derive(Drop)]
 pub struct Service<'a, K: Kind> {
     pub(crate) nodes: u16,
     pub(crate) links: Links<'a, K::Use>,
 }
 
-// A stream in the book: its number, rate, figure and hops, and the numbers of its links in order, unused places 0.
+// A stream in the book: its number, rate, figure and hops, and the numbers of its links in order, unused places 0. A
+// record has sixteen places for them, since a book has no heap.
 #[derive(Clone, Copy)]
 pub struct Stream {
     pub number: u16,
@@ -140,7 +142,7 @@ impl From<NetFault> for Refusal {
 }
 
 // What a list of calls leaves: whether the net is in service, its links, the records of the book, and what the calls
-// got, in order.
+// got, in order. The state is a flag, and no net stands here, so that a caller gets both tables back whole.
 #[derive(Drop)]
 pub struct Shift<'a, 'b, U: Copy> {
     pub serving: bool,

@@ -16,7 +16,7 @@ pub enum Head {
     Gated(Clock),
 }
 
-// What the sheet's first line asks.
+// What the sheet's first line asks. Its casts lose nothing, which is proved.
 pub fn read_head(reader: &mut Reader<'_>) -> Result<Head, Fault>
     ensures told { Tells heading result (heading_of (fields_left reader.old)) }
     ensures same { SameLine reader.old reader.new }

@@ -40,6 +40,7 @@ fn link_numbers<const N: usize>(reader: &mut Reader<'_>) -> Result<[u32; N], Fau
     numbers(reader, line, [65535; N])
 }
 
+// The casts below lose nothing, which is proved; a `try_from` would add a fault that no line can have.
 impl Link for BudgetUse {
     ghost width = { 2 };
 
