@@ -1,15 +1,11 @@
 -- The state of a list of uses, one use more at its end. Assumes nothing.
-use Rattle.std.proofs.Common.{◌≡◌, ℕ, ◌+◌, ◌<◌, List, [], ◌∷◌, ◌++◌, length, get_or, take, sym, ap, ◌∙◌, subst, append_assoc, append-nil}
-use Rattle.std.proofs.lemmas.List.Sums.{fold_push, fold_more}
+use Rattle.std.proofs.Common.{◌≡◌, List, [], ◌∷◌, ◌++◌, sym, subst, append_assoc, append-nil}
+use Rattle.std.proofs.lemmas.List.Sums.{fold_push}
 use Rattle.kinds.specs.Kinds.{Model, along}
 
 module _ {K S U : Type 0} (m : Model K S U) (k : K) where
   pub along_push : (us : List U) (u : U) → along m k (us ++ u ∷ []) ≡ m.extended k (along m k us) u
   along_push us u = fold_push (m.extended k) (m.start k) us u
-
-  pub along_more : (us : List U) (i : ℕ) (u : U) → i < length us → u ≡ get_or us i u → m.extended k (along m k (take i us)) u ≡ along m k (take (i + 1) us)
-  along_more us i u inside read =
-      ap (m.extended k (along m k (take i us))) read ∙ sym (fold_more (m.extended k) (m.start k) us i u inside)
 
 -- an induction from the end of a list
 module _ {U : Type 0} (P : List U → Type 0) (push : (us : List U) (u : U) → P us → P (us ++ u ∷ [])) where

@@ -1,6 +1,8 @@
 pub mod Along
 pub mod Arrivals
 pub mod Choices
+pub mod Covering
+pub mod Filling
 pub mod Parts
 pub mod Passes
 pub mod RowsHold

@@ -1,5 +1,5 @@
 -- What a budget computes, and what making one answers. Assumes nothing.
-use Rattle.std.specs.Prelude.{ℕ, zero, suc, ◌+◌, max, Bool, cond, ◌&&◌, leb, List, [], ◌∷◌, map, replicate, Ok, Err, Result, nat_le, slice_index}
+use Rattle.std.specs.Prelude.{ℕ, zero, suc, ◌+◌, max, Bool, cond, ◌&&◌, List, [], ◌∷◌, map, replicate, Ok, Err, Result, nat_le, slice_index}
 use Rattle.std.specs.List.{range_with_len}
 use Rattle.kinds.specs.Kinds.{Model}
 use Rattle.kinds.specs.Stopped.{stopped}
@@ -28,7 +28,7 @@ budget_model = record {
   start = λ k. record { worst = replicate 9 0 };
   extended = λ k s u. record { worst = map (λ g. cond (nat_le g k.allowance) (raised s u g) 0) (range_with_len 0 9) };
   within = λ k s. nat_le (worst_at s k.allowance) k.limit;
-  covers = λ k a b. up_to k.allowance (λ g. leb (worst_at a g) (worst_at b g));
+  covers = λ k a b. up_to k.allowance (λ g. nat_le (worst_at a g) (worst_at b g));
   figure = λ k s. worst_at s k.allowance;
 }
 

@@ -4,7 +4,7 @@ ghost use Rattle.std.specs.Prelude.{◌^◌, ◌<◌, ◌≤◌};
 pub mod rules;
 
 // The limit holds while at most as many links as the allowance are at their worst together.
-#[derive(Clone, Copy)]
+#[derive(Clone, Copy, Debug, PartialEq, Eq)]
 pub struct Budget {
     pub allowance: u16,
     pub limit: u32,
@@ -12,7 +12,7 @@ pub struct Budget {
 }
 
 // What a link takes on a good day, and how much more at its worst.
-#[derive(Clone, Copy)]
+#[derive(Clone, Copy, Debug, PartialEq, Eq)]
 pub struct BudgetUse {
     pub nominal: u16,
     pub extra: u16,
@@ -20,12 +20,13 @@ pub struct BudgetUse {
 }
 
 // What a route comes to with at most 0, 1, 2, .. links at their worst, up to the allowance; the places past it are 0.
-#[derive(Clone, Copy)]
+// Nine places for each allowance, as a kind uses no heap.
+#[derive(Clone, Copy, Debug, PartialEq, Eq)]
 pub struct BudgetState {
     pub worst: [u32; 9],
 }
 
-#[derive(Clone, Copy)]
+#[derive(Clone, Copy, Debug, PartialEq, Eq)]
 pub enum BudgetFault {
     AllowanceAboveEight,
 }

@@ -34,9 +34,6 @@ pub trait Kind: Copy {
 pub fn state_along<K: Kind>(kind: &K, uses: &[K::Use]) -> K::State
     ensures { result ≡ along K.Kind.model kind.now uses.now }
 {
-    let mut state = kind.start();
-    for taken in uses {
-        state = kind.extend(&state, taken);
-    }
-    state
+    uses.iter()
+        .fold(kind.start(), |state, taken| kind.extend(&state, taken))
 }

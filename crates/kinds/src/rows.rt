@@ -8,11 +8,5 @@ pub fn worked_examples() -> usize
     ensures hold { AllByRecursion Holds rows }
     ensures count { result ≡ length rows }
 {
-    row_count()
-}
-
-fn row_count() -> usize
-    ensures { result ≡ length rows }
-{
     12
 }

@@ -1,11 +1,13 @@
 // Budget as a kind of limit.
-ghost use Rattle.std.specs.Prelude.{◌≡◌, ◌<◌};
+ghost use Rattle.std.specs.Prelude.{◌≡◌, ◌<◌, nat_le};
+ghost use Rattle.std.specs.List.{list_all, zip};
 ghost use Rattle.kinds.specs.Budget.{budget_model, fault_number, making, made_of, raised};
 ghost use Rattle.kinds.specs.Choices.{WorstCase};
 ghost use Rattle.kinds.specs.BudgetLaws.{budget_laws};
 
 use super::{Budget, BudgetFault, BudgetState, BudgetUse};
 use crate::kind::{Kind, state_along};
+use std::array;
 
 impl BudgetFault {
     pub fn number(self) -> u16
@@ -28,11 +30,19 @@ impl Budget {
     }
 
     // What a route comes to when at most as many links as the allowance are at their worst together.
+    #[tactic(auto, using(crate::proofs::Choices::worst_case))]
     pub fn worst_case(&self, uses: &[BudgetUse]) -> BudgetState
         ensures { WorstCase self.now uses.now result }
     {
         state_along(self, uses)
     }
+}
+
+// No number of `a` is above the one at its place in `b`.
+fn none_above(a: &[u32], b: &[u32]) -> bool
+    ensures { result ≡ list_all (λ p. nat_le p.0 p.1) (zip a.now b.now) }
+{
+    a.iter().zip(b).all(|(x, y)| x <= y)
 }
 
 impl BudgetState {
@@ -66,11 +76,15 @@ impl Kind for Budget {
     }
 
     fn extend(&self, state: &BudgetState, taken: &BudgetUse) -> BudgetState {
-        let mut worst = [0; 9];
-        for g in 0..usize::from(self.allowance) + 1 {
-            worst[g] = state.raised_at(g, taken);
+        BudgetState {
+            worst: array::from_fn(|g| {
+                if g <= usize::from(self.allowance) {
+                    state.raised_at(g, taken)
+                } else {
+                    0
+                }
+            }),
         }
-        BudgetState { worst }
     }
 
     fn within(&self, state: &BudgetState) -> bool {
@@ -79,12 +93,7 @@ impl Kind for Budget {
 
     fn covers(&self, a: &BudgetState, b: &BudgetState) -> bool {
         let count = usize::from(self.allowance) + 1;
-        for g in 0..count {
-            if a.worst[g] > b.worst[g] {
-                return false;
-            }
-        }
-        true
+        none_above(&a.worst[..count], &b.worst[..count])
     }
 
     fn figure(&self, state: &BudgetState) -> u32 {

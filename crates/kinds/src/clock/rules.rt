@@ -9,6 +9,7 @@ use crate::kind::{Kind, state_along};
 
 impl Clock {
     // When a route arrives, and whether a gate on it was reached too late.
+    #[tactic(auto, using(crate::proofs::Arrivals::arrives))]
     pub fn arrival(&self, uses: &[ClockUse]) -> ClockState
         ensures { Arrives self.now uses.now result }
     {

@@ -8,6 +8,7 @@ use crate::kind::{Kind, state_along};
 
 impl<A: Kind, B: Kind> Pair<A, B> {
     // The state of a route for both kinds at once.
+    #[tactic(auto, using(crate::proofs::Parts::parts))]
     pub fn both_along(&self, uses: &[PairUse<A::Use, B::Use>]) -> PairState<A::State, B::State>
         ensures { Parts A.Kind.model B.Kind.model self.now uses.now result }
     {

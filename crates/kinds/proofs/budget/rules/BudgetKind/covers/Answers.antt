@@ -1,12 +1,12 @@
-use Rattle.std.proofs.Common.{leb, sym, arith}
-use Rattle.std.proofs.lemmas.Bool.{le-leb, lt-leb}
-use Rattle.kinds.specs.Budget.{worst_at}
-use Rattle.kinds.specs.BudgetLaws.{up_to_from, up_to_fails}
+use Rattle.std.proofs.Common.{◌+◌, take, nat_le, ap, ◌∙◌, arith}
+use Rattle.std.specs.List.{list_all, zip}
+use Rattle.kinds.proofs.Covering.{covers_all}
 use Rattle.kinds.proofs.budget.rules.BudgetKind.covers.Goals as goal
 
-pub returns-then-a-g : goal.returns-then-a-g
-returns-then-a-g c =
-    sym (up_to_fails c.args.self.now.allowance (λ g. leb (worst_at c.args.a.now g) (worst_at c.args.b.now g)) c.loop-g.g (omega arith) (lt-leb _ _ c.if-a-g.true))
-
 pub returns : goal.returns
-returns c = sym (up_to_from _ _ (λ i le. le-leb _ _ (c.loop-g.invariant i (omega arith))))
+returns c =
+    let a = c.args.a.now in
+    let b = c.args.b.now in
+    c.none_above.ensures
+    ∙ ap (λ n. list_all (λ p. nat_le p.0 p.1) (zip (take (n + 1) a.worst) (take (n + 1) b.worst))) c.from-count.ensures
+    ∙ covers_all c.args.self.now a b (omega arith) (omega arith)
