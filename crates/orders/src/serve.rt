@@ -96,6 +96,7 @@ fn perform_all<K: SiteKind>(
 }
 
 // Answers the lines that are left, on a net of so many nodes.
+#[tactic(auto, using(crate::proofs::Sites::all_calls))]
 pub fn serve<K: SiteKind>(
     heap: Global,
     reader: &mut Reader<'_>,

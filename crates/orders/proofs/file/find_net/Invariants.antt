@@ -5,7 +5,7 @@ use Rattle.orders.proofs.file.find_net.Given as goal
 
 abbrev pub invariant-loop-line : goal.invariant-loop-line
 invariant-loop-line l =
-    Sofar (line_number l.initial.reader) (lines_left l.initial.reader) (string_bytes l.initial.out) (line_number l.reader) (lines_left l.reader) (string_bytes l.out)
+    Sofar (line_number l.initial.reader) (lines_left l.initial.reader) (string_bytes l.initial.out) l.reader (string_bytes l.out)
 
 abbrev pub decreases-loop-line : goal.decreases-loop-line
 decreases-loop-line l = length (lines_left l.reader)
