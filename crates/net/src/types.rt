@@ -142,7 +142,8 @@ impl From<NetFault> for Refusal {
 }
 
 // What a list of calls leaves: whether the net is in service, its links, the records of the book, and what the calls
-// got, in order. The state is a flag, and no net stands here, so that a caller gets both tables back whole.
+// got, in order. The state is a flag, and no net stands here, so that a caller reads both lists
+// and gets their tables back.
 #[derive(Drop)]
 pub struct Shift<'a, 'b, U: Copy> {
     pub serving: bool,

@@ -85,4 +85,12 @@ impl<'a, T: Copy, const CAP: usize> SliceVec<'a, T, CAP> {
     {
         self.count = 0;
     }
+
+    // The whole table, as it is now.
+    pub fn into_places(self) -> &'a mut [T]
+        ensures { result.now ≡ self.entry.places }
+    {
+        let SliceVec { places, .. } = self;
+        places
+    }
 }
