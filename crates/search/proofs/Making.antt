@@ -1,12 +1,15 @@
 -- All labels of the rule, made one after another over a table. Assumes nothing.
-use Rattle.std.proofs.Common.{◌≡◌, ℕ, suc, ◌+◌, ◌≤◌, ◌++◌, length, take, Ok, Err, Result, sym, ap, add-one, arith}
+use Rattle.std.proofs.Common.{◌≡◌, ℕ, suc, ◌+◌, ◌<◌, ◌≤◌, ◌++◌, min, List, length, take, Ok, Err, Result, sym, refl, ap, ◌∙◌, subst, add-one, arith}
+use Rattle.std.proofs.lemmas.Bool.{cond-true, cond-false, le-leb, lt-leb}
 use Rattle.kinds.specs.Kinds.{Model}
-use Rattle.search.specs.Labels.{held, Stores}
+use Rattle.slice_vec.specs.Tables.{stored}
+use Rattle.search.specs.Labels.{counted, held, placed, Stores}
 use Rattle.search.specs.Rule.{Query, first, turn, after, made}
 use Rattle.search.specs.declared.answer.SearchFault.{SearchFault}
+use Rattle.search.specs.declared.label.Label.{Label}
 use Rattle.search.specs.declared.label.Labels.{Labels}
 use Rattle.search.proofs.Order.{after_grows, made_grows, made_done}
-use Rattle.search.proofs.Storing.{fits, held_is, stores_at, stores_more, stores_on}
+use Rattle.search.proofs.Storing.{fits, full, held_is, stores_at, stores_more, stores_on}
 
 module _ {K S U : Type 0} (m : Model K S U) (q : Query K U) (old : Labels S) where
   -- the list has no labels before the first
@@ -38,3 +41,28 @@ module _ {K S U : Type 0} (m : Model K S U) (q : Query K U) (old : Labels S) whe
   making_all n now h le =
       let few = fits (after m q n) old now h in
       stores_at (sym (made_done m q n (omega arith))) h
+
+  -- what a run over the whole table answers and leaves, where the list lay in this table
+  module _ (table : List (Label S)) (same : old.places.now ≡ table) (next : Labels S) where
+    pub made_full : (f : SearchFault) → Stores (made m q) old (Err f) next → (Err f ≡ counted (made m q) table) × (next.places.now ≡ stored (made m q) table)
+    made_full f h =
+        let (over, is) = full (made m q) old next f h in
+        (ap Err is ∙ sym (cond-false _ _ _ (lt-leb _ _ (subst (λ t. length t < length (made m q)) same over))), h.places_are ∙ ap (stored (made m q)) same)
+
+    pub made_fits : Stores (made m q) old (Ok tt) next → (Ok next.count ≡ counted (made m q) table) × (next.places.now ≡ stored (made m q) table)
+    made_fits h =
+        let few = fits (made m q) old next h in
+        (ap Ok (h.count_is ∙ omega arith) ∙ sym (cond-true _ _ _ (le-leb _ _ (subst (λ t. length (made m q) ≤ length t) same few))), h.places_are ∙ ap (stored (made m q)) same)
+
+-- the list when it had no labels yet, in this table
+abbrev pub bare : {S : Type 0} → Labels S → List (Label S) → Labels S
+bare l table = record { count = 0; places = record { ref_ptr = l.places.ref_ptr; ghost_name = l.places.ghost_name; now = table }; within = omega arith }
+
+-- the same step over the list when it had no labels yet
+pub stores_bare : {S : Type 0} (ls : List (Label S)) (old next : Labels S) (table : List (Label S)) → old.places.now ≡ table → Stores ls old (Ok tt) next → Stores ls (bare next table) (Ok tt) next
+stores_bare ls old next table same h = record {
+  lent = refl;
+  answer_is = h.answer_is ∙ ap (placed ls) same;
+  count_is = h.count_is ∙ ap (λ t. min (length ls) (length t)) same;
+  places_are = h.places_are ∙ ap (stored ls) same;
+}

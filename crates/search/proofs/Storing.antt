@@ -4,7 +4,7 @@ use Rattle.std.proofs.lemmas.List.{length-take, length-take-le, length_push, dro
 use Rattle.std.proofs.lemmas.Bool.{cond-true, cond-false, le-leb, lt-leb, cases_lt}
 use Rattle.slice_vec.specs.Tables.{stored}
 use Rattle.slice_vec.proofs.Tables.{stored_fits, stored_full, stored_none, stored_one}
-use Rattle.search.specs.Labels.{held, placed, Stores}
+use Rattle.search.specs.Labels.{counted, held, placed, Stores}
 use Rattle.search.specs.declared.answer.SearchFault.{SearchFault}
 use Rattle.search.specs.declared.answer.SearchFault.TheVariants.{Full}
 use Rattle.search.specs.declared.label.Label.{Label}
@@ -21,6 +21,38 @@ module _ {X : Type 0} (table : List X) where
   pub length-stored : (ls : List X) → length (stored ls table) ≡ length table
   length-stored ls =
       length-append (take (length table) ls) (drop (length ls) table) ∙ omega (arith, length-take (length table) ls, length-drop (length ls) table)
+
+  -- a count says that each label found its place, and no count that one did not
+  pub counted_fits : (ls : List X) (n : ℕ) → Ok n ≡ counted ls table → (length ls ≤ length table) × (n ≡ length ls)
+  counted_fits ls n h =
+      ⊎_elim
+      (λ over. absurd (ok_err (h ∙ cond-false _ _ _ (lt-leb _ _ over))))
+      (λ le. (le, same (h ∙ cond-true _ _ _ (le-leb _ _ le))))
+      (cases_lt (length table) (length ls))
+    where
+      same : ◌≡◌ {A = Result ℕ SearchFault} (Ok n) (Ok (length ls)) → n ≡ length ls
+      same e = cc
+
+      ok_err : ◌≡◌ {A = Result ℕ SearchFault} (Ok n) (Err Full) → ⊥
+      ok_err e = let z : ◌≡◌ {A = ℕ} 0 1 = cc in omega arith
+
+  pub counted_full : (ls : List X) (f : SearchFault) → Err f ≡ counted ls table → (length table < length ls) × (f ≡ Full)
+  counted_full ls f h =
+      ⊎_elim
+      (λ over. (over, same (h ∙ cond-false _ _ _ (lt-leb _ _ over))))
+      (λ le. absurd (err_ok (h ∙ cond-true _ _ _ (le-leb _ _ le))))
+      (cases_lt (length table) (length ls))
+    where
+      same : ◌≡◌ {A = Result ℕ SearchFault} (Err f) (Err Full) → f ≡ Full
+      same e = cc
+
+      err_ok : ◌≡◌ {A = Result ℕ SearchFault} (Err f) (Ok (length ls)) → ⊥
+      err_ok e = let z : ◌≡◌ {A = ℕ} 0 1 = cc in omega arith
+
+  pub counted_front : (ls : List X) (n : ℕ) → Ok n ≡ counted ls table → take n (stored ls table) ≡ ls
+  counted_front ls n h =
+      let told = counted_fits ls n h in
+      ap (take n) (stored_fits table ls told.0) ∙ take_at ls (drop (length ls) table) n (sym told.1)
 
 module _ {S : Type 0} (l : Labels S) where
   -- what is there already

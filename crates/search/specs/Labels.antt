@@ -1,5 +1,5 @@
 -- The labels held in a lent table, and what a step leaves there. Assumes nothing.
-use Rattle.std.specs.Prelude.{◌≡◌, min, cond, List, length, take, Ok, Err, Result, nat_le}
+use Rattle.std.specs.Prelude.{◌≡◌, ℕ, min, cond, List, length, take, Ok, Err, Result, nat_le}
 use Rattle.slice_vec.specs.Tables.{stored}
 use Rattle.search.specs.declared.answer.SearchFault.{SearchFault}
 use Rattle.search.specs.declared.answer.SearchFault.TheVariants.{Full}
@@ -12,6 +12,10 @@ held l = take l.count l.places.now
 -- whether each of ls finds a place in the table
 abbrev pub placed : {X : Type 0} → List X → List X → Result (Unit {0}) SearchFault
 placed ls table = cond (nat_le (length ls) (length table)) (Ok tt) (Err Full)
+
+-- how many labels were made, if each of them found a place
+abbrev pub counted : {X : Type 0} → List X → List X → Result ℕ SearchFault
+counted ls table = cond (nat_le (length ls) (length table)) (Ok (length ls)) (Err Full)
 
 -- what a step answers and leaves where ls are the labels after it: in the table lie as many of them as it has places
 pub record Stores {S : Type 0} (ls : List (Label S)) (old : Labels S) (answer : Result (Unit {0}) SearchFault) (new : Labels S) : Type 0 where

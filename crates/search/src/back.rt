@@ -22,6 +22,7 @@ fn origin<S: Copy>(labels: &[Label<S>], n: usize) -> (usize, u16)
 }
 
 // Writes the links back from label `n`, `hops` of them, from the start of the places on.
+#[tactic(auto, using(crate::proofs::Fields::way_step))]
 fn write_back<S: Copy>(labels: &[Label<S>], n: usize, hops: usize, places: &mut [u16])
     requires { hops ≤ length places.old }
     ensures { places.new ≡ way hops labels.now n ++ drop hops places.old }

@@ -30,6 +30,7 @@ fn weigh<K: Kind>(
     }
 }
 
+#[tactic(auto, using(crate::proofs::Chosen::weighs_more, crate::proofs::Chosen::weighs_all))]
 fn best_label<K: Kind>(query: &Query<K>, labels: &[Label<K::State>]) -> Option<Best>
     ensures { result ≡ best K.Kind.model query.now.kind query.now.target labels.now }
 {

@@ -1,7 +1,8 @@
 // Makes the labels of a search, round by round.
 ghost use Rattle.std.specs.Prelude.{◌≡◌, ◌++◌, false, not, ◌&&◌, if◌then◌else◌, Some, None, slice_index_or};
 ghost use Rattle.std.specs.List.{list_any};
-ghost use Rattle.search.specs.Labels.{held, Stores};
+ghost use Rattle.slice_vec.specs.Tables.{stored};
+ghost use Rattle.search.specs.Labels.{counted, held, Stores};
 ghost use Rattle.search.specs.Rule.{is_open, candidate, beats, beaten, offered, first, tried, tries, turn, made};
 
 use crate::answer::SearchFault;
@@ -141,18 +142,19 @@ fn make_first<K: Kind>(query: &Query<K>, labels: &mut Labels<K::State>) -> Resul
     })
 }
 
-// Makes all labels of the rule, in a list that has none.
+// Makes all labels of the rule, in the table from its start, and counts them.
 pub fn make_labels<K: Kind>(
     query: &Query<K>,
-    labels: &mut Labels<K::State>,
-) -> Result<(), SearchFault>
-    requires { labels.old.count ≡ 0 }
-    ensures { Stores (made K.Kind.model query.now) labels.old result labels.new }
+    places: &mut [Label<K::State>],
+) -> Result<usize, SearchFault>
+    ensures count { result ≡ counted (made K.Kind.model query.now) places.old }
+    ensures left { places.new ≡ stored (made K.Kind.model query.now) places.old }
 {
-    make_first(query, labels)?;
+    let mut labels = Labels::new(places);
+    make_first(query, &mut labels)?;
     // By number, as the list grows while its labels are taken.
     for number in 0..labels.places.len() {
-        take_label(query, number, labels)?;
+        take_label(query, number, &mut labels)?;
     }
-    Ok(())
+    Ok(labels.count)
 }

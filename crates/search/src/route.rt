@@ -6,7 +6,7 @@ ghost use Rattle.slice_vec.specs.Tables.{stored};
 
 use crate::answer::{Found, SearchFault};
 use crate::best::pick;
-use crate::label::{Label, Labels};
+use crate::label::Label;
 use crate::query::Query;
 use crate::rounds::make_labels;
 use kinds::Kind;
@@ -31,7 +31,6 @@ pub fn search<K: Kind>(
     ensures table { labels.new ≡ stored (made K.Kind.model query.now) labels.old }
     ensures promise { Promise K.Kind.model query.now (length labels.old) result labels.new }
 {
-    let mut list = Labels::new(labels);
-    make_labels(query, &mut list)?;
-    pick(query, list.as_slice())
+    let count = make_labels(query, labels)?;
+    pick(query, &labels[..count])
 }
