@@ -7,7 +7,7 @@ use kinds::BudgetFault;
 use net::NetFault;
 
 // Why a line is refused before its call is made.
-#[derive(Drop)]
+#[derive(Clone, Copy, Debug, PartialEq, Eq)]
 pub enum LineFault {
     UnknownOrder,
     // Not in the net's present state.

@@ -30,7 +30,8 @@ pub trait SiteKind: Kind {
 
 // The casts below lose nothing, which is proved; a `try_from` would add a fault that no line can have.
 fn budget_use(nominal: u32, extra: u32) -> BudgetUse
-    requires { (nominal ≤ 65535) × (extra ≤ 65535) }
+    requires nominal { nominal ≤ 65535 }
+    requires extra { extra ≤ 65535 }
     ensures { result ≡ budget_use nominal extra }
 {
     BudgetUse {
@@ -40,7 +41,9 @@ fn budget_use(nominal: u32, extra: u32) -> BudgetUse
 }
 
 fn clock_use(travel: u32, opens: u32, closes: u32) -> ClockUse
-    requires { (travel ≤ 65535) × ((opens ≤ 65535) × (closes ≤ 65535)) }
+    requires travel { travel ≤ 65535 }
+    requires opens { opens ≤ 65535 }
+    requires closes { closes ≤ 65535 }
     ensures { result ≡ clock_use travel opens closes }
 {
     ClockUse {
@@ -69,7 +72,10 @@ fn budget(allowance: u32, limit: u32) -> Result<Budget, LineFault>
 // What a booking asks on every site.
 fn request<const N: usize>(found: [u32; N]) -> Request
     requires wide { 5 ≤ N }
-    requires ends { (slice_index found 0 ≤ 65535) × ((slice_index found 1 ≤ 65535) × ((slice_index found 2 ≤ 65535) × (slice_index found 4 ≤ 65535))) }
+    requires stream { slice_index found 0 ≤ 65535 }
+    requires source { slice_index found 1 ≤ 65535 }
+    requires target { slice_index found 2 ≤ 65535 }
+    requires hop_limit { slice_index found 4 ≤ 65535 }
     ensures { result ≡ request_of found.entry }
 {
     Request {
@@ -84,7 +90,8 @@ fn request<const N: usize>(found: [u32; N]) -> Request
 // What a link is told on every site, and what it takes on this one.
 fn link<U: Copy, const N: usize>(found: [u32; N], taken: U) -> Link<U>
     requires wide { 3 ≤ N }
-    requires ends { (slice_index found 0 ≤ 65535) × (slice_index found 1 ≤ 65535) }
+    requires tail { slice_index found 0 ≤ 65535 }
+    requires head { slice_index found 1 ≤ 65535 }
     ensures { result ≡ linked found.entry taken }
 {
     Link {
