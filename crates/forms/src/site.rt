@@ -24,7 +24,7 @@ pub trait SiteKind: Kind {
         ensures told { read_as result ≡ booking_line form (fields_left reader.old) }
         ensures line { SameLine reader.old reader.new };
 
-    // Values that fill a table before it is used.
+    // Values that fill a table before it is used. A method, since `Default` for states and uses would ask more of a kind.
     fn blank() -> (Self, Self::Use);
 }
 
