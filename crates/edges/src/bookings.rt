@@ -1,23 +1,50 @@
 // Calls that show each number of a refusal, performed on small nets.
-ghost use Rattle.std.specs.Prelude.{◌≡◌};
+ghost use Rattle.std.specs.Prelude.{◌≡◌, Some, None};
+ghost use Rattle.net.specs.declared.types.Refusal.TheVariants.{Fault};
 ghost use Rattle.net.specs.Performed.{told_of};
 
+use crate::verdict;
 use kinds::{Budget, BudgetUse, Kind, Pair, PairUse};
-use net::{Answer, Call, Refusal, Request, Stream, perform};
-use search::{Label, Link};
+use net::{Answer, Call, NetFault, Refusal, Request, Stream, perform};
+use search::{Label, Link, SearchFault};
 use std::io;
 
 type Limits = Pair<Budget, Budget>;
 
 type Take = PairUse<BudgetUse, BudgetUse>;
 
-// A call in words, and the number that it should get; 0 where it is not refused. It is the numbers that are shown here.
+// A call in words, and why it should be refused, if it should.
 #[derive(Clone, Copy)]
 struct Expected {
     call: &'static str,
-    number: u16,
+    refusal: Option<Refusal>,
 }
 
+fn accepted(call: &'static str) -> Expected
+    ensures { result.refusal ≡ None }
+{
+    Expected {
+        call,
+        refusal: None,
+    }
+}
+
+fn refused(call: &'static str, refusal: Refusal) -> Expected
+    ensures { result.refusal ≡ Some refusal }
+{
+    Expected {
+        call,
+        refusal: Some(refusal),
+    }
+}
+
+fn faulty(call: &'static str, fault: NetFault) -> Expected
+    ensures { result.refusal ≡ Some (Fault fault) }
+{
+    refused(call, Refusal::Fault(fault))
+}
+
+// The number of a refusal, and 0 where there is none.
 fn number_of(answer: &Result<Answer, Refusal>) -> u16
     ensures { result ≡ (told_of answer.now).0 }
 {
@@ -25,12 +52,6 @@ fn number_of(answer: &Result<Answer, Refusal>) -> u16
         Ok(_) => 0,
         Err(refusal) => refusal.number(),
     }
-}
-
-fn should_get(call: &'static str, number: u16) -> Expected
-    ensures { result.number ≡ number }
-{
-    Expected { call, number }
 }
 
 // The links and limits of this program are its own, as those of `planner` are: two examples need no crate between them.
@@ -93,11 +114,7 @@ fn log(rt: &HostRuntime, all: &[Expected], answers: &[Result<Answer, Refusal>]) 
         match answers.next() {
             Some(answer) => {
                 let number = number_of(answer);
-                let verdict = if number == expected.number {
-                    "ok"
-                } else {
-                    "WRONG"
-                };
+                let verdict = verdict(answer.err() == expected.refusal);
                 println!(rt; "{call}: {number}: {verdict}")?;
             }
             None => println!(rt; "{call}: no answer: WRONG")?,
@@ -160,21 +177,21 @@ fn show_laying(rt: &HostRuntime) -> io::Result<()> {
         Call::Close,
     ];
     let all = [
-        should_get("four nodes: add 4 to 1", 3),
-        should_get("add 0 to 4", 4),
-        should_get("add 1 to 1", 5),
-        should_get("add 0 to 1", 0),
-        should_get("add 1 to 2", 0),
-        should_get("add 2 to 3", 0),
-        should_get("add 0 to 3", 0),
-        should_get("add 3 to 0 to a full table", 6),
-        should_get("withdraw 4 of four links", 7),
-        should_get("withdraw 3", 0),
-        should_get("book while laid", 22),
-        should_get("release while laid", 22),
-        should_get("show while laid", 22),
-        should_get("load while laid", 22),
-        should_get("close while laid", 22),
+        faulty("four nodes: add 4 to 1", NetFault::Tail),
+        faulty("add 0 to 4", NetFault::Head),
+        faulty("add 1 to 1", NetFault::LinkEnds),
+        accepted("add 0 to 1"),
+        accepted("add 1 to 2"),
+        accepted("add 2 to 3"),
+        accepted("add 0 to 3"),
+        faulty("add 3 to 0 to a full table", NetFault::LinksFull),
+        faulty("withdraw 4 of four links", NetFault::NoLink),
+        accepted("withdraw 3"),
+        refused("book while laid", Refusal::NotTaken),
+        refused("release while laid", Refusal::NotTaken),
+        refused("show while laid", Refusal::NotTaken),
+        refused("load while laid", Refusal::NotTaken),
+        refused("close while laid", Refusal::NotTaken),
     ];
     show(rt, 4, &calls, &all)
 }
@@ -210,33 +227,45 @@ fn show_serving(rt: &HostRuntime) -> io::Result<()> {
         Call::Close,
     ];
     let all = [
-        should_get("four nodes: add 0 to 1", 0),
-        should_get("add 1 to 2", 0),
-        should_get("open", 0),
-        should_get("add in service", 22),
-        should_get("withdraw in service", 22),
-        should_get("open in service", 22),
-        should_get("book stream 0", 8),
-        should_get("book to node 4", 12),
-        should_get("book to its source", 13),
-        should_get("book at rate 0", 14),
-        should_get("book with hop limit 0", 15),
-        should_get("book with hop limit 17", 15),
-        should_get("book two hops with hop limit 1", 17),
-        should_get("book two hops with 2 label places", 16),
-        should_get("book two hops with 3 label places", 0),
-        should_get("book a stream that stands", 9),
-        should_get("book rate 41 over capacity 100, load 60", 17),
-        should_get("book rate 40 over capacity 100, load 60", 0),
-        should_get("book with two streams in a table of two", 10),
-        should_get("release a stream that does not stand", 18),
-        should_get("show a stream that does not stand", 18),
-        should_get("show 8", 0),
-        should_get("load of link 2 of two", 7),
-        should_get("load of link 0", 0),
-        should_get("release 7", 0),
-        should_get("close", 0),
-        should_get("close again", 22),
+        accepted("four nodes: add 0 to 1"),
+        accepted("add 1 to 2"),
+        accepted("open"),
+        refused("add in service", Refusal::NotTaken),
+        refused("withdraw in service", Refusal::NotTaken),
+        refused("open in service", Refusal::NotTaken),
+        faulty("book stream 0", NetFault::StreamZero),
+        faulty("book to node 4", NetFault::Target),
+        faulty("book to its source", NetFault::StreamEnds),
+        faulty("book at rate 0", NetFault::Rate),
+        faulty("book with hop limit 0", NetFault::HopLimit),
+        faulty("book with hop limit 17", NetFault::HopLimit),
+        faulty(
+            "book two hops with hop limit 1",
+            NetFault::Search(SearchFault::NoRoute),
+        ),
+        faulty(
+            "book two hops with 2 label places",
+            NetFault::Search(SearchFault::Full),
+        ),
+        accepted("book two hops with 3 label places"),
+        faulty("book a stream that stands", NetFault::StreamTaken),
+        faulty(
+            "book rate 41 over capacity 100, load 60",
+            NetFault::Search(SearchFault::NoRoute),
+        ),
+        accepted("book rate 40 over capacity 100, load 60"),
+        faulty(
+            "book with two streams in a table of two",
+            NetFault::BookFull,
+        ),
+        faulty("release a stream that does not stand", NetFault::NoStream),
+        faulty("show a stream that does not stand", NetFault::NoStream),
+        accepted("show 8"),
+        faulty("load of link 2 of two", NetFault::NoLink),
+        accepted("load of link 0"),
+        accepted("release 7"),
+        accepted("close"),
+        refused("close again", Refusal::NotTaken),
     ];
     show(rt, 4, &calls, &all)
 }
@@ -250,18 +279,24 @@ fn show_worked(rt: &HostRuntime) -> io::Result<()> {
         Call::Add(link(0, 1)),
     ];
     let all = [
-        should_get("four nodes, no links: open", 0),
-        should_get("book with one label place", 17),
-        should_get("book with no label place", 16),
-        should_get("close", 0),
-        should_get("add after close", 0),
+        accepted("four nodes, no links: open"),
+        faulty(
+            "book with one label place",
+            NetFault::Search(SearchFault::NoRoute),
+        ),
+        faulty(
+            "book with no label place",
+            NetFault::Search(SearchFault::Full),
+        ),
+        accepted("close"),
+        accepted("add after close"),
     ];
     show(rt, 4, &calls, &all)?;
     let calls = [Call::Add(link(0, 1)), Call::Open, book(7, 1, 60, 4, 8)];
     let all = [
-        should_get("one node: add 0 to 1", 3),
-        should_get("open", 0),
-        should_get("book from node 0", 11),
+        faulty("one node: add 0 to 1", NetFault::Tail),
+        accepted("open"),
+        faulty("book from node 0", NetFault::Source),
     ];
     show(rt, 1, &calls, &all)
 }
