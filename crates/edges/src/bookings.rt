@@ -3,15 +3,13 @@ ghost use Rattle.std.specs.Prelude.{◌≡◌, Some, None};
 ghost use Rattle.net.specs.declared.types.Refusal.TheVariants.{Fault};
 ghost use Rattle.net.specs.Performed.{told_of};
 
-use crate::verdict;
-use kinds::{Budget, BudgetUse, Kind, Pair, PairUse};
+use crate::{DelayUse, any_price, delayed, unused, verdict};
+use kinds::{Budget, Kind, Pair};
 use net::{Answer, Call, NetFault, Refusal, Request, Stream, perform};
-use search::{Label, Link, SearchFault};
+use search::{Link, SearchFault};
 use std::io;
 
 type Limits = Pair<Budget, Budget>;
-
-type Take = PairUse<BudgetUse, BudgetUse>;
 
 // A call in words, and why it should be refused, if it should.
 #[derive(Clone, Copy)]
@@ -56,34 +54,17 @@ fn number_of(answer: &Result<Answer, Refusal>) -> u16
 
 // The links and limits of this program are its own, as those of `planner` are: two examples need no crate between them.
 // A link of capacity 100 that costs 2, with a delay of 3 and 5 more at its worst.
-fn link(tail: u16, head: u16) -> Link<Take>
+fn link(tail: u16, head: u16) -> Link<DelayUse>
     ensures { (result.tail ≡ tail) × ((result.head ≡ head) × (result.capacity ≡ 100)) }
 {
-    Link {
-        tail,
-        head,
-        capacity: 100,
-        taken: PairUse {
-            first: BudgetUse {
-                nominal: 2,
-                extra: 0,
-            },
-            second: BudgetUse {
-                nominal: 3,
-                extra: 5,
-            },
-        },
-    }
+    delayed(tail, head, 2, 3, 5)
 }
 
 fn limits() -> Limits
     ensures { (result.second.allowance ≡ 1) × (result.second.limit ≡ 11) }
 {
     Pair {
-        first: Budget {
-            allowance: 0,
-            limit: u32::MAX,
-        },
+        first: any_price(),
         second: Budget {
             allowance: 1,
             limit: 11,
@@ -92,7 +73,13 @@ fn limits() -> Limits
 }
 
 // A booking from node 0.
-fn book(stream: u16, target: u16, rate: u32, hop_limit: u16, places: usize) -> Call<Limits, Take> {
+fn book(
+    stream: u16,
+    target: u16,
+    rate: u32,
+    hop_limit: u16,
+    places: usize,
+) -> Call<Limits, DelayUse> {
     Call::Book {
         request: Request {
             stream,
@@ -127,7 +114,7 @@ fn log(rt: &HostRuntime, all: &[Expected], answers: &[Result<Answer, Refusal>]) 
 fn show(
     rt: &HostRuntime,
     nodes: u16,
-    calls: &[Call<Limits, Take>],
+    calls: &[Call<Limits, DelayUse>],
     all: &[Expected],
 ) -> io::Result<()> {
     let mut links = [link(0, 0); 4];
@@ -138,13 +125,7 @@ fn show(
         hops: 0,
         links: [0; 16],
     }; 2];
-    let mut labels = [Label {
-        node: 0,
-        hops: 0,
-        state: limits().start(),
-        from: 0,
-        link: 0,
-    }; 8];
+    let mut labels = [unused(limits().start()); 8];
     match perform(
         rt.alloc(),
         nodes,

@@ -10,7 +10,7 @@ ghost use Rattle.edges.specs.Tells.{Tells};
 
 use bookings::show_bookings;
 use examples::{examples, joined};
-use kinds::{Budget, BudgetUse, Clock, ClockUse, DuctUse, Ducts, Kind, Pair, PairUse};
+use kinds::{Budget, BudgetFault, BudgetUse, Clock, ClockUse, DuctUse, Ducts, Kind, Pair, PairUse};
 use search::{Label, Link, Query, SearchFault, route_to, search};
 use std::{fmt, io};
 
@@ -115,7 +115,7 @@ fn show<K: Kind>(
 
 // A link with a price and a delay.
 fn delayed(tail: u16, head: u16, price: u16, delay: u16, extra: u16) -> Link<DelayUse>
-    ensures ends { (result.tail ≡ tail) × (result.head ≡ head) }
+    ensures ends { (result.tail ≡ tail) × ((result.head ≡ head) × (result.capacity ≡ 100)) }
     ensures takes { (result.taken.first.nominal ≡ price) × ((result.taken.second.nominal ≡ delay) × (result.taken.second.extra ≡ extra)) }
 {
     Link {
@@ -365,7 +365,7 @@ fn show_allowance(rt: &HostRuntime) -> io::Result<()> {
         Ok(_) => println!(rt; "a budget with allowance 9: made: WRONG"),
         Err(fault) => {
             let number = fault.number();
-            let verdict = verdict(number == 2);
+            let verdict = verdict(fault == BudgetFault::AllowanceAboveEight);
             println!(rt; "a budget with allowance 9: refused with {number}: {verdict}")
         }
     }

@@ -24,7 +24,7 @@ pub trait SiteKind: Kind {
         ensures told { read_as result ≡ booking_line form (fields_left reader.old) }
         ensures line { SameLine reader.old reader.new };
 
-    // Values that fill a table before it is used. A method, since `Default` for states and uses would ask more of a kind.
+    // Values that fill a table before it is used. A method, since `Default` for kinds and uses would ask more of them.
     fn blank() -> (Self, Self::Use);
 }
 
@@ -102,6 +102,8 @@ fn link<U: Copy, const N: usize>(found: [u32; N], taken: U) -> Link<U>
     }
 }
 
+// The two sites tell different fields, and no const argument can be the sum of two: what a pair tells is not made of what its
+// parts tell. What both tell is `link`, `request` and `budget`.
 impl SiteKind for Pair<Budget, Budget> {
     ghost form = { plain_form };
 

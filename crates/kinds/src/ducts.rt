@@ -5,7 +5,7 @@ pub mod rules;
 #[derive(Clone, Copy, Debug, PartialEq, Eq)]
 pub struct Ducts {}
 
-// The duct that a link lies in, 0 to 63; a larger number means none.
+// The duct that a link lies in, 0 to 63; a larger number means none, as every format tells it.
 #[derive(Clone, Copy, Debug, PartialEq, Eq)]
 pub struct DuctUse {
     pub duct: u16,

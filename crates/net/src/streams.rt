@@ -51,7 +51,8 @@ pub fn mark_open<U: Copy>(links: &[Link<U>], streams: &[Stream], rate: u32, flag
     requires few_streams { length streams.now ≤ 64 }
     ensures { flags.new ≡ stored (flags_for (load streams.now) rate links.now) flags.old }
 {
-    // By index, since no proof knows what `iter_mut().zip(..)` wrote. There are at most 512 links, so a number has 16 bits.
+    // By index, since no proof knows what `iter_mut().zip(..)` wrote, and `array::from_fn` would ask each of 512 places for
+    // its link. There are at most 512 links, so a number has 16 bits.
     for (i, link) in links.iter().enumerate() {
         flags[i] = has_room(link.capacity, load_of(streams, i as u16), rate);
     }

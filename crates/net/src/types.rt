@@ -29,7 +29,7 @@ pub struct Service<'a, K: Kind> {
 }
 
 // A stream in the book: its number, rate, figure and hops, and the numbers of its links in order, unused places 0. A
-// record has sixteen places for them, since a book has no heap.
+// record is copied as a table's other places are, and its sixteen places for links are its format.
 #[derive(Clone, Copy)]
 pub struct Stream {
     pub number: u16,
@@ -108,8 +108,8 @@ pub enum Net<'a, K: Kind> {
     Serving(Service<'a, K>),
 }
 
-// The answer to a call that was not refused. A shown route lies at the start of its sixteen places: an answer has no
-// heap to keep it in.
+// The answer to a call that was not refused. A shown route lies at the start of its sixteen places: what the answers
+// take is reserved before the first call.
 #[derive(Clone, Copy, Debug)]
 pub enum Answer {
     Done,

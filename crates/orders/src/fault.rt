@@ -2,7 +2,7 @@
 ghost use Rattle.std.specs.Prelude.{◌≡◌, Some, codes};
 ghost use Rattle.orders.specs.declared.fault.AnswerFault.TheVariants.{NoMemory};
 
-use std::alloc::AllocError;
+use std::alloc::{AllocError, AllocFailed};
 use std::error::Error;
 use std::fmt;
 
@@ -24,10 +24,28 @@ impl fmt::Display for AnswerFault {
 
 impl Error for AnswerFault {}
 
+// The conversions are by hand: clauses name the fault that a `?` makes.
 impl From<AllocError> for AnswerFault {
     ghost from_gives = { λ _ r. r ≡ NoMemory };
 
     fn from(_error: AllocError) -> AnswerFault {
+        AnswerFault::NoMemory
+    }
+}
+
+impl<T: Drop> From<AllocFailed<T>> for AnswerFault {
+    ghost from_gives = { λ _ r. r ≡ NoMemory };
+
+    fn from(_refused: AllocFailed<T>) -> AnswerFault {
+        AnswerFault::NoMemory
+    }
+}
+
+// A text takes all that is written to it while there is memory.
+impl From<fmt::Error> for AnswerFault {
+    ghost from_gives = { λ _ r. r ≡ NoMemory };
+
+    fn from(_error: fmt::Error) -> AnswerFault {
         AnswerFault::NoMemory
     }
 }

@@ -2,7 +2,7 @@
 ghost use Rattle.std.specs.Prelude.{◌≡◌, ◌+◌, false, [], ◌∷◌, ◌++◌, map, IfOk, OnOk};
 ghost use Rattle.reader.specs.Steps.{lines_left, line_number};
 ghost use Rattle.forms.specs.Faults.{read_as};
-ghost use Rattle.orders.specs.Passes.{entry_of, blame_some, refusal_in, serving_by, call_in, reads, calls_in, entries};
+ghost use Rattle.orders.specs.Passes.{entry_of, refusal_in, serving_by, call_in, reads, calls_in, entries};
 
 use forms::{LineFault, SiteKind, read_line};
 use net::Call;
@@ -23,7 +23,7 @@ pub struct Orders<K: Copy, U: Copy> {
     pub lines: Vec<Line>,
 }
 
-// Whether the net is in service after a line.
+// Whether the net is in service after a line: a bool, as a run of calls and its ledger have it.
 fn state_by<K: Copy, U: Copy>(read: &Result<Call<K, U>, LineFault>, serving: bool) -> bool
     ensures { result ≡ serving_by (read_as read.now) serving }
 {

@@ -1,5 +1,5 @@
 // A site whose net exists: its lines to calls, the calls performed, their answers to lines.
-ghost use Rattle.std.specs.Prelude.{◌≡◌, ◌+◌, [], map, length, drop, IfOk, string_bytes, OnOk};
+ghost use Rattle.std.specs.Prelude.{◌≡◌, ◌+◌, [], map, IfOk, string_bytes, OnOk};
 ghost use Rattle.std.specs.Slice.Iter.{iter_rest};
 ghost use Rattle.net.specs.Laws.{PromiseOfRun};
 ghost use Rattle.net.specs.Ledger.{answers, begun};

@@ -1,4 +1,4 @@
-// Answer lines, written to a text.
+// Answer lines, written to a text: each function writes one kind of line whole, and says its bytes.
 ghost use Rattle.std.specs.Prelude.{◌≡◌, [], ◌∷◌, ◌++◌, Some, take, string_bytes};
 ghost use Rattle.net.specs.Performed.{told_of, values_of};
 ghost use Rattle.forms.specs.Faults.{blame_of};
@@ -29,7 +29,7 @@ pub fn write_made(out: &mut String, line: usize) -> Result<(), AllocError>
     writeln!(out, "{line},ok")
 }
 
-// The links of a route, which lie at the start of sixteen places.
+// The links of a route, which lie at the start of the sixteen places that an answer has for them.
 fn route(links: &[u16; 16], hops: u16) -> &[u16]
     ensures { result.now ≡ take hops links.now }
 {

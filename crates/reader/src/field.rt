@@ -1,9 +1,9 @@
 // A field of a line, and what its bytes are read as.
-ghost use Rattle.std.specs.Prelude.{◌≡◌, ◌-◌, ◌≤◌, true, false, length, MatchOption};
+ghost use Rattle.std.specs.Prelude.{◌≡◌, ◌-◌};
 ghost use Rattle.std.specs.Char.{is_ascii_digit, is_ascii_lowercase};
 ghost use Rattle.std.specs.List.{list_all};
 ghost use Rattle.std.specs.Str.{bytes_eq};
-ghost use Rattle.reader.specs.Reading.{value_of, is_word, number_of, reading, meaning, bytes_of};
+ghost use Rattle.reader.specs.Reading.{is_word, number_of, reading, meaning, bytes_of};
 
 #[derive(Clone, Copy, Debug, PartialEq, Eq)]
 pub enum Field<'a> {
@@ -38,7 +38,8 @@ impl<'a> Field<'a> {
     }
 }
 
-// Whether a text is the word. A `match` compares with words that it names; this is for a word that the caller holds.
+// Whether a text is the word. A `match` compares with words that it names; this is for a word that the caller holds, and
+// stays because it is public.
 pub fn same(text: &[u8], word: &[u8]) -> bool
     ensures { result ≡ bytes_eq text.now word.now }
 {

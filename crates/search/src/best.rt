@@ -35,7 +35,7 @@ fn best_label<K: Kind>(query: &Query<K>, labels: &[Label<K::State>]) -> Option<B
     ensures { result ≡ best K.Kind.model query.now.kind query.now.target labels.now }
 {
     let mut so_far = None;
-    // A fold would say no more: `weigh` has all there is to say of a label.
+    // A fold over `enumerate` was tried, and its proof did not close.
     for (n, label) in labels.iter().enumerate() {
         so_far = weigh(query, so_far, n, label);
     }

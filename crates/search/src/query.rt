@@ -3,6 +3,7 @@ use crate::label::Link;
 use kinds::Kind;
 use std::marker::Model;
 
+// The links and their flags lie side by side: a flag is worked out once for each link, and a link is tried for each label.
 // The kind's values, the links, a flag for each that says whether it is open, the two ends, and how many links a
 // route may have.
 #[derive(Drop)]

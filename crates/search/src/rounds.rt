@@ -1,5 +1,5 @@
 // Makes the labels of a search, round by round.
-ghost use Rattle.std.specs.Prelude.{◌≡◌, ◌++◌, false, not, ◌&&◌, if◌then◌else◌, Some, None, slice_index_or};
+ghost use Rattle.std.specs.Prelude.{◌≡◌, ◌++◌, not, ◌&&◌, if◌then◌else◌, Some, None};
 ghost use Rattle.std.specs.List.{list_any};
 ghost use Rattle.slice_vec.specs.Tables.{stored};
 ghost use Rattle.search.specs.Labels.{counted, held, Stores};

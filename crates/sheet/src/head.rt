@@ -1,5 +1,4 @@
 // The first line of a sheet.
-ghost use Rattle.std.specs.Prelude.{◌≡◌};
 ghost use Rattle.reader.specs.Steps.{SameLine, fields_left};
 ghost use Rattle.sheet.specs.Heads.{heading};
 ghost use Rattle.sheet.specs.Sheet.{heading_of};

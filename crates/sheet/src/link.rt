@@ -1,6 +1,5 @@
 // A link's line, and the two kinds of link that it can tell.
-ghost use Rattle.std.specs.Prelude.{◌≡◌, ℕ, ◌<◌, ◌≤◌, List, map, IfOk, slice_index};
-ghost use Rattle.std.specs.List.{range_with_len};
+ghost use Rattle.std.specs.Prelude.{◌≡◌, ℕ, ◌<◌, ◌≤◌, List, IfOk, slice_index};
 ghost use Rattle.reader.specs.Steps.{SameLine, fields_left, line_number};
 ghost use Rattle.sheet.specs.Figures.{budget_figures, gate_figures};
 ghost use Rattle.sheet.specs.Sheet.{link_line};

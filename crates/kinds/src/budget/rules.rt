@@ -29,7 +29,8 @@ impl Budget {
         Ok(Budget { allowance, limit })
     }
 
-    // What a route comes to when at most as many links as the allowance are at their worst together.
+    // What a route comes to when at most as many links as the allowance are at their worst together. A method beside
+    // `state_along`, as in each kind: the theorem of this kind stands on it.
     #[tactic(auto, using(crate::proofs::Choices::worst_case))]
     pub fn worst_case(&self, uses: &[BudgetUse]) -> BudgetState
         ensures { WorstCase self.now uses.now result }

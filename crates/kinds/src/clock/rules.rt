@@ -1,5 +1,4 @@
 // Clock as a kind of limit.
-ghost use Rattle.std.specs.Prelude.{◌≡◌};
 ghost use Rattle.kinds.specs.Arrivals.{Arrives};
 ghost use Rattle.kinds.specs.Clock.{clock_model};
 ghost use Rattle.kinds.specs.ClockLaws.{clock_laws};
@@ -8,7 +7,7 @@ use super::{Clock, ClockState, ClockUse};
 use crate::kind::{Kind, state_along};
 
 impl Clock {
-    // When a route arrives, and whether a gate on it was reached too late.
+    // When a route arrives, and whether a gate on it was reached too late: `state_along`, with this kind's theorem.
     #[tactic(auto, using(crate::proofs::Arrivals::arrives))]
     pub fn arrival(&self, uses: &[ClockUse]) -> ClockState
         ensures { Arrives self.now uses.now result }

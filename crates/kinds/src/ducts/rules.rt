@@ -1,5 +1,4 @@
 // Duct set as a kind of limit.
-ghost use Rattle.std.specs.Prelude.{◌≡◌};
 ghost use Rattle.kinds.specs.Ducts.{ducts_model};
 ghost use Rattle.kinds.specs.Passes.{Passes};
 ghost use Rattle.kinds.specs.DuctLaws.{ducts_laws};
@@ -8,7 +7,7 @@ use super::{DuctState, DuctUse, Ducts};
 use crate::kind::{Kind, state_along};
 
 impl Ducts {
-    // The ducts that a route passes, and whether it passes one twice.
+    // The ducts that a route passes, and whether it passes one twice: `state_along`, with this kind's theorem.
     pub fn passed(&self, uses: &[DuctUse]) -> DuctState
         ensures { Passes self.now uses.now result }
     {

@@ -1,5 +1,4 @@
 // Any two kinds joined, as a kind of limit.
-ghost use Rattle.std.specs.Prelude.{◌≡◌};
 ghost use Rattle.kinds.specs.Pair.{pair_model, Parts};
 ghost use Rattle.kinds.specs.PairLaws.{pair_laws};
 
@@ -7,7 +6,7 @@ use super::{Pair, PairState, PairUse};
 use crate::kind::{Kind, state_along};
 
 impl<A: Kind, B: Kind> Pair<A, B> {
-    // The state of a route for both kinds at once.
+    // The state of a route for both kinds at once: `state_along`, with this kind's theorem.
     #[tactic(auto, using(crate::proofs::Parts::parts))]
     pub fn both_along(&self, uses: &[PairUse<A::Use, B::Use>]) -> PairState<A::State, B::State>
         ensures { Parts A.Kind.model B.Kind.model self.now uses.now result }
