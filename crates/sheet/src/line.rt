@@ -19,9 +19,13 @@ pub fn numbers<const N: usize>(
     ensures small { IfOk result (λ ns. (i : ℕ) → i < N → slice_index ns i ≤ slice_index most.entry i) }
     ensures same { SameLine reader.old reader.new }
 {
-    reader.next_numbers(most).map_err(|fault| match fault {
-        NumbersFault::Missing(i) => Fault::at(line, i + 2, Cause::MissingField),
-        NumbersFault::Surplus => Fault::at(line, N + 2, Cause::SurplusField),
-        NumbersFault::Bad(i) => Fault::at(line, i + 2, Cause::NotANumber { most: most[i] }),
-    })
+    // A match, as in the closure of a `map_err` no proof knows that the place of a fault is below N.
+    match reader.next_numbers(most) {
+        Ok(found) => Ok(found),
+        Err(NumbersFault::Missing(i)) => Err(Fault::at(line, i + 2, Cause::MissingField)),
+        Err(NumbersFault::Surplus) => Err(Fault::at(line, N + 2, Cause::SurplusField)),
+        Err(NumbersFault::Bad(i)) => {
+            Err(Fault::at(line, i + 2, Cause::NotANumber { most: most[i] }))
+        }
+    }
 }
