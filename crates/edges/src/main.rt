@@ -22,6 +22,7 @@ const MOST_PLACES: usize = 8;
 
 const MOST_HOPS: usize = 4;
 
+// A route's links lie at the start of its places, so that routes compare and are copied.
 #[derive(Clone, Copy, PartialEq, Eq)]
 struct Route {
     figure: u32,

@@ -44,6 +44,7 @@ impl LineFault {
     }
 }
 
+// The conversions are by hand: clauses name the fault that a `?` makes.
 impl From<BudgetFault> for LineFault {
     ghost from_gives = { λ f r. r ≡ Budget f };
 

@@ -33,7 +33,8 @@ impl Stream {
     }
 }
 
-// The sum of the rates of the streams whose route has the link.
+// The sum of the rates of the streams whose route has the link. The bound is a `requires` here and where this is called, as the
+// `sum` of a chain takes it from one.
 pub fn load_of(streams: &[Stream], link: u16) -> u64
     requires { length streams.now ≤ 64 }
     ensures { result ≡ load streams.now link }

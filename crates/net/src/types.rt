@@ -76,6 +76,7 @@ pub enum NetFault {
     ListShort,
 }
 
+// The conversions are by hand: clauses name the fault that a `?` makes.
 impl From<SearchFault> for NetFault {
     ghost from_gives = { λ f r. r ≡ Search f };
 

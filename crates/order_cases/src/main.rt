@@ -194,9 +194,7 @@ fn show_end(
 // The start of a file, and then the same text again and again.
 fn repeated(heap: Global, start: &str, more: &str, times: usize) -> Result<String, AllocError> {
     let mut text = String::from_str(heap, start)?;
-    for _ in 0..times {
-        text.push_str(more)?;
-    }
+    text.push_str(&more.repeat(heap, times)?)?;
     Ok(text)
 }
 

@@ -50,6 +50,7 @@ impl<K: Copy, U: Copy> Orders<K, U> {
         ensures calls { OnOk result (self.new.calls.items ≡ self.old.calls.items ++ call_in (read_as read)) }
         ensures lines { OnOk result (map entry_of self.new.lines.items ≡ map entry_of self.old.lines.items ++ (number, refusal_in (read_as read)) ∷ []) }
     {
+        // A call goes to the calls, and only a refusal stays with its line.
         let refusal = match read {
             Ok(call) => {
                 self.calls.push(call)?;

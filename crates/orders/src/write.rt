@@ -1,4 +1,5 @@
 // Answer lines, written to a text: each function writes one kind of line whole, and says its bytes.
+// The text and the line's number come from two places, and make no value of their own.
 ghost use Rattle.std.specs.Prelude.{◌≡◌, [], ◌∷◌, ◌++◌, Some, take, string_bytes};
 ghost use Rattle.net.specs.Performed.{told_of, values_of};
 ghost use Rattle.forms.specs.Faults.{blame_of};

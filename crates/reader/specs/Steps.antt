@@ -28,6 +28,7 @@ abbrev pub line_number : Reader → ℕ
 line_number r = r.number
 
 -- the lines after the current one, and its number, stay as they were
+-- (said of two states of a reader, so that it stands in clauses and in no invariant)
 abbrev pub SameLine : Reader → Reader → Type 0
 SameLine r r' = (lines_left r' ≡ lines_left r) × (line_number r' ≡ line_number r)
 

@@ -27,7 +27,8 @@ impl Field<'_> {
 }
 
 impl<'a> Reader<'a> {
-    // The fields left of the current line: a number for each of `most`, and at most that large.
+    // The fields left of the current line: a number for each of `most`, and at most that large. The clauses `long` and `small`
+    // stand in the functions over this one too, since they are about their own `N`.
     pub fn next_numbers<const N: usize>(&mut self, most: [u32; N]) -> Result<[u32; N], NumbersFault>
         ensures told { result ≡ numbers_of most.entry (fields_left self.old) }
         ensures long { IfOk result (λ ns. length ns ≡ N) }
@@ -47,6 +48,7 @@ impl<'a> Reader<'a> {
         if self.next_field().is_some() {
             return Err(NumbersFault::Surplus);
         }
+        // A match, as a fault and the values are two ways to end, and neither is made from the other.
         match bad {
             Some(i) => Err(NumbersFault::Bad(i)),
             None => Ok(found),

@@ -33,6 +33,7 @@ impl<'a, T: Copy, const CAP: usize> SliceVec<'a, T, CAP> {
         SliceVec { count: 0, places }
     }
 
+    // The items. The clause `within`, here and below, hands the invariant to callers, who see the table alone.
     pub fn as_slice(&self) -> &[T]
         ensures items { result.now ≡ listed CAP self.now }
         ensures within { self.now.count ≤ room CAP self.now }
@@ -56,6 +57,7 @@ impl<'a, T: Copy, const CAP: usize> SliceVec<'a, T, CAP> {
         ensures long { length self.old.places < 2 ^ 64 }
     {
         let place = self.count;
+        // Not by `is_full`: through it the proof of `left` was tried, and did not close.
         if place >= CAP || place >= self.places.len() {
             return None;
         }
