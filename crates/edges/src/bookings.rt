@@ -42,7 +42,7 @@ fn faulty(call: &'static str, fault: NetFault) -> Expected
     refused(call, Refusal::Fault(fault))
 }
 
-// The number of a refusal, and 0 where there is none.
+// The number of a refusal, and 0 where there is none, as the ledger's answers have it.
 fn number_of(answer: &Result<Answer, Refusal>) -> u16
     ensures { result ≡ (told_of answer.now).0 }
 {

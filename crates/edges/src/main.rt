@@ -22,7 +22,7 @@ const MOST_PLACES: usize = 8;
 
 const MOST_HOPS: usize = 4;
 
-// A route's links lie at the start of its places, so that routes compare and are copied.
+// A route's links lie at the start of its places: a `Vec` would not be copied.
 #[derive(Clone, Copy, PartialEq, Eq)]
 struct Route {
     figure: u32,
@@ -73,6 +73,7 @@ fn answer_to<K: Kind>(
     })
 }
 
+// Said in the other program over cases too: two programs need no crate between them for three lines.
 fn verdict(is_expected: bool) -> &'static str
     ensures { result.now ≡ cond is_expected (codes "ok") (codes "WRONG") }
 {

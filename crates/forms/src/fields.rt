@@ -13,7 +13,7 @@ pub const TOP16: u32 = 65_535;
 pub const TOP32: u32 = u32::MAX;
 
 // The numbers after the order: one for each of `most`, and at most that large. Their fault has no `From`, which could not
-// know that a place is small enough to be counted on from.
+// know that a place is small enough to be counted on from. `N < 16` is about this function's own `N`.
 pub fn numbers<const N: usize>(
     reader: &mut Reader<'_>,
     most: [u32; N],

@@ -44,7 +44,8 @@ fn checked_net(site: SiteName, nodes: u16) -> Result<NetOrder, LineFault>
     Ok(NetOrder { site, nodes })
 }
 
-// The faults in their order; the node count has 16 bits, which is proved.
+// The faults in their order, which is one for name and count, so that no `map_err` on either tells it. The node count has 16
+// bits, which is proved.
 fn net_by(
     name: Option<SiteName>,
     nodes: Result<[u32; 1], NumbersFault>,

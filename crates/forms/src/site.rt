@@ -28,7 +28,8 @@ pub trait SiteKind: Kind {
     fn blank() -> (Self, Self::Use);
 }
 
-// The casts below lose nothing, which is proved; a `try_from` would add a fault that no line can have.
+// The casts below lose nothing, which is proved; a `try_from` would add a fault that no line can have. Each bound is a
+// `requires` of what is made of the number, as it is a fact of one number and of no type.
 fn budget_use(nominal: u32, extra: u32) -> BudgetUse
     requires nominal { nominal ≤ 65535 }
     requires extra { extra ≤ 65535 }

@@ -80,7 +80,8 @@ fn check_route(nodes: u16, request: &Request) -> Result<(), NetFault>
     Ok(())
 }
 
-// Searches the links that are open to the booking.
+// Searches the links that are open to the booking. The kind and the request come with a call and the labels are lent to the
+// net: they make no value of their own.
 fn find_route<K: Kind>(
     kind: &K,
     links: &[Link<K::Use>],
@@ -93,6 +94,7 @@ fn find_route<K: Kind>(
     ensures answer { search_told_of result ≡ search_answer K.Kind.model (query links.now (load streams.now) kind.now request.now) (length labels.old) }
     ensures table { labels.new ≡ stored (made K.Kind.model (query links.now (load streams.now) kind.now request.now)) labels.old }
 {
+    // A flag for each link that a net can have, on the stack: nothing is allocated.
     let mut flags = [false; 512];
     mark_open(links, streams, request.rate, &mut flags);
     let query = Query {

@@ -47,7 +47,8 @@ fn lay<'a, K: Kind>(
 }
 
 // What follows lends the book and the labels, which the caller of `perform` owns: they make no value of their own, and that
-// the label table stays as long as it was is said of two states, so that no type can hold it.
+// the label table stays as long as it was is said of two states, so that no type can hold it, and the site is
+// any that matches.
 // A booking with at most so many places of the label table.
 fn book_within<K: Kind>(
     net: &Service<K>,

@@ -28,8 +28,8 @@ pub struct Service<'a, K: Kind> {
     pub(crate) links: Links<'a, K::Use>,
 }
 
-// A stream in the book: its number, rate, figure and hops, and the numbers of its links in order, unused places 0. A
-// record is copied as a table's other places are, and its sixteen places for links are its format.
+// A stream in the book: its number, rate, figure and hops, and the numbers of its links in order, unused places 0. Its
+// sixteen places for links lie in it: the book's table is lent, and nothing is allocated.
 #[derive(Clone, Copy)]
 pub struct Stream {
     pub number: u16,
@@ -134,6 +134,7 @@ pub enum Refusal {
     NotTaken,
 }
 
+// By hand, as the one above.
 impl From<NetFault> for Refusal {
     ghost from_gives = { λ f r. r ≡ Fault f };
 

@@ -145,6 +145,7 @@ const CALLS: [Case; 7] = [
     ),
 ];
 
+// Said in the other program over cases too: two programs need no crate between them for three lines.
 fn verdict(is_expected: bool) -> &'static str {
     if is_expected {
         "as expected"

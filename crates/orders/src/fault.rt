@@ -24,7 +24,7 @@ impl fmt::Display for AnswerFault {
 
 impl Error for AnswerFault {}
 
-// The conversions are by hand: clauses name the fault that a `?` makes.
+// The conversions are by hand, as a derived one has no contract; this crate uses the first, and all are public.
 impl From<AllocError> for AnswerFault {
     ghost from_gives = { λ _ r. r ≡ NoMemory };
 

@@ -30,7 +30,8 @@ pub fn write_made(out: &mut String, line: usize) -> Result<(), AllocError>
     writeln!(out, "{line},ok")
 }
 
-// The links of a route, which lie at the start of the sixteen places that an answer has for them.
+// The links of a route, which lie at the start of the sixteen places that an answer has for them. A stream's record has its
+// own `route`: one type for both would change two public formats.
 fn route(links: &[u16; 16], hops: u16) -> &[u16]
     ensures { result.now ≡ take hops links.now }
 {

@@ -76,6 +76,7 @@ impl<'a> fmt::Display for Line<'a> {
     }
 }
 
+// Links and limits are this program's own, as those of `edges` are: two examples need no crate between them.
 // A link of capacity 100 that always costs its price.
 fn link(tail: u16, head: u16, price: u16, delay: u16, extra: u16) -> Link<Take>
     ensures ends { (result.tail ≡ tail) × ((result.head ≡ head) × (result.capacity ≡ 100)) }

@@ -41,6 +41,6 @@ pub struct Verdict {
     pub state: Stop,
     // The first link whose gate had closed, counted from 0.
     pub missed: Option<usize>,
-    // What the kind says of the state.
+    // What the kind says of the state: a plain truth, on which no other value depends.
     pub within: bool,
 }

@@ -6,7 +6,8 @@ ghost use Rattle.sheet.specs.Line.{numbers_of};
 use crate::fault::{Cause, Fault};
 use reader::{NumbersFault, Reader};
 
-// The numbers after a line's first field: one for each of `most`, and at most that large.
+// The numbers after a line's first field: one for each of `most`, and at most that large. `N < 16` is
+// about this function's own `N`.
 #[tactic(auto, using(crate::proofs::Numbers::numbers_read))]
 pub fn numbers<const N: usize>(
     reader: &mut Reader<'_>,

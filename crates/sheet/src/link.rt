@@ -25,7 +25,7 @@ pub trait Link: Copy {
         ensures same { SameLine reader.old reader.new };
 }
 
-// The numbers of a link's line, each of at most 16 bits.
+// The numbers of a link's line, each of at most 16 bits. `N < 16` is about this function's own `N`.
 fn link_numbers<const N: usize>(reader: &mut Reader<'_>) -> Result<[u32; N], Fault>
     requires { N < 16 }
     ensures told { result ≡ link_line N (line_number reader.old) (fields_left reader.old) }
