@@ -1,5 +1,5 @@
 // Calls that show each number of a refusal, performed on small nets.
-ghost use Rattle.std.specs.Prelude.{◌≡◌, Some, None};
+ghost use Rattle.std.specs.Prelude.{◌≡◌, true, Some, None};
 ghost use Rattle.net.specs.declared.types.Refusal.TheVariants.{Fault};
 ghost use Rattle.net.specs.Performed.{told_of};
 
@@ -11,35 +11,41 @@ use std::io;
 
 type Limits = Pair<Budget, Budget>;
 
-// A call in words, and why it should be refused, if it should.
+// A call in words, the number that it should get, 0 where it is not refused, and why it should be refused, if it should.
 #[derive(Clone, Copy)]
 struct Expected {
     call: &'static str,
+    number: u16,
     refusal: Option<Refusal>,
 }
 
 fn accepted(call: &'static str) -> Expected
-    ensures { result.refusal ≡ None }
+    ensures number { result.number ≡ 0 }
+    ensures refusal { result.refusal ≡ None }
 {
     Expected {
         call,
+        number: 0,
         refusal: None,
     }
 }
 
-fn refused(call: &'static str, refusal: Refusal) -> Expected
-    ensures { result.refusal ≡ Some refusal }
+fn refused(call: &'static str, number: u16, refusal: Refusal) -> Expected
+    ensures number { result.number ≡ number }
+    ensures refusal { result.refusal ≡ Some refusal }
 {
     Expected {
         call,
+        number,
         refusal: Some(refusal),
     }
 }
 
-fn faulty(call: &'static str, fault: NetFault) -> Expected
-    ensures { result.refusal ≡ Some (Fault fault) }
+fn faulty(call: &'static str, number: u16, fault: NetFault) -> Expected
+    ensures number { result.number ≡ number }
+    ensures refusal { result.refusal ≡ Some (Fault fault) }
 {
-    refused(call, Refusal::Fault(fault))
+    refused(call, number, Refusal::Fault(fault))
 }
 
 // The number of a refusal, and 0 where there is none, as the ledger's answers have it.
@@ -93,7 +99,14 @@ fn book(
     }
 }
 
-// Prints each call with the number it got, and whether that is the one expected.
+// Whether an answer has the number and the reason that are expected.
+fn is_as_expected(answer: &Result<Answer, Refusal>, expected: &Expected) -> bool
+    ensures { result ≡ true → (told_of answer.now).0 ≡ expected.now.number }
+{
+    number_of(answer) == expected.number && answer.err() == expected.refusal
+}
+
+// Prints each call with the number it got, and whether number and reason are those expected.
 fn log(rt: &HostRuntime, all: &[Expected], answers: &[Result<Answer, Refusal>]) -> io::Result<()> {
     let mut answers = answers.iter();
     for expected in all {
@@ -101,7 +114,7 @@ fn log(rt: &HostRuntime, all: &[Expected], answers: &[Result<Answer, Refusal>]) 
         match answers.next() {
             Some(answer) => {
                 let number = number_of(answer);
-                let verdict = verdict(answer.err() == expected.refusal);
+                let verdict = verdict(is_as_expected(answer, expected));
                 println!(rt; "{call}: {number}: {verdict}")?;
             }
             None => println!(rt; "{call}: no answer: WRONG")?,
@@ -158,21 +171,21 @@ fn show_laying(rt: &HostRuntime) -> io::Result<()> {
         Call::Close,
     ];
     let all = [
-        faulty("four nodes: add 4 to 1", NetFault::Tail),
-        faulty("add 0 to 4", NetFault::Head),
-        faulty("add 1 to 1", NetFault::LinkEnds),
+        faulty("four nodes: add 4 to 1", 3, NetFault::Tail),
+        faulty("add 0 to 4", 4, NetFault::Head),
+        faulty("add 1 to 1", 5, NetFault::LinkEnds),
         accepted("add 0 to 1"),
         accepted("add 1 to 2"),
         accepted("add 2 to 3"),
         accepted("add 0 to 3"),
-        faulty("add 3 to 0 to a full table", NetFault::LinksFull),
-        faulty("withdraw 4 of four links", NetFault::NoLink),
+        faulty("add 3 to 0 to a full table", 6, NetFault::LinksFull),
+        faulty("withdraw 4 of four links", 7, NetFault::NoLink),
         accepted("withdraw 3"),
-        refused("book while laid", Refusal::NotTaken),
-        refused("release while laid", Refusal::NotTaken),
-        refused("show while laid", Refusal::NotTaken),
-        refused("load while laid", Refusal::NotTaken),
-        refused("close while laid", Refusal::NotTaken),
+        refused("book while laid", 22, Refusal::NotTaken),
+        refused("release while laid", 22, Refusal::NotTaken),
+        refused("show while laid", 22, Refusal::NotTaken),
+        refused("load while laid", 22, Refusal::NotTaken),
+        refused("close while laid", 22, Refusal::NotTaken),
     ];
     show(rt, 4, &calls, &all)
 }
@@ -211,42 +224,42 @@ fn show_serving(rt: &HostRuntime) -> io::Result<()> {
         accepted("four nodes: add 0 to 1"),
         accepted("add 1 to 2"),
         accepted("open"),
-        refused("add in service", Refusal::NotTaken),
-        refused("withdraw in service", Refusal::NotTaken),
-        refused("open in service", Refusal::NotTaken),
-        faulty("book stream 0", NetFault::StreamZero),
-        faulty("book to node 4", NetFault::Target),
-        faulty("book to its source", NetFault::StreamEnds),
-        faulty("book at rate 0", NetFault::Rate),
-        faulty("book with hop limit 0", NetFault::HopLimit),
-        faulty("book with hop limit 17", NetFault::HopLimit),
+        refused("add in service", 22, Refusal::NotTaken),
+        refused("withdraw in service", 22, Refusal::NotTaken),
+        refused("open in service", 22, Refusal::NotTaken),
+        faulty("book stream 0", 8, NetFault::StreamZero),
+        faulty("book to node 4", 12, NetFault::Target),
+        faulty("book to its source", 13, NetFault::StreamEnds),
+        faulty("book at rate 0", 14, NetFault::Rate),
+        faulty("book with hop limit 0", 15, NetFault::HopLimit),
+        faulty("book with hop limit 17", 15, NetFault::HopLimit),
         faulty(
             "book two hops with hop limit 1",
-            NetFault::Search(SearchFault::NoRoute),
+            17, NetFault::Search(SearchFault::NoRoute),
         ),
         faulty(
             "book two hops with 2 label places",
-            NetFault::Search(SearchFault::Full),
+            16, NetFault::Search(SearchFault::Full),
         ),
         accepted("book two hops with 3 label places"),
-        faulty("book a stream that stands", NetFault::StreamTaken),
+        faulty("book a stream that stands", 9, NetFault::StreamTaken),
         faulty(
             "book rate 41 over capacity 100, load 60",
-            NetFault::Search(SearchFault::NoRoute),
+            17, NetFault::Search(SearchFault::NoRoute),
         ),
         accepted("book rate 40 over capacity 100, load 60"),
         faulty(
             "book with two streams in a table of two",
-            NetFault::BookFull,
+            10, NetFault::BookFull,
         ),
-        faulty("release a stream that does not stand", NetFault::NoStream),
-        faulty("show a stream that does not stand", NetFault::NoStream),
+        faulty("release a stream that does not stand", 18, NetFault::NoStream),
+        faulty("show a stream that does not stand", 18, NetFault::NoStream),
         accepted("show 8"),
-        faulty("load of link 2 of two", NetFault::NoLink),
+        faulty("load of link 2 of two", 7, NetFault::NoLink),
         accepted("load of link 0"),
         accepted("release 7"),
         accepted("close"),
-        refused("close again", Refusal::NotTaken),
+        refused("close again", 22, Refusal::NotTaken),
     ];
     show(rt, 4, &calls, &all)
 }
@@ -263,11 +276,11 @@ fn show_worked(rt: &HostRuntime) -> io::Result<()> {
         accepted("four nodes, no links: open"),
         faulty(
             "book with one label place",
-            NetFault::Search(SearchFault::NoRoute),
+            17, NetFault::Search(SearchFault::NoRoute),
         ),
         faulty(
             "book with no label place",
-            NetFault::Search(SearchFault::Full),
+            16, NetFault::Search(SearchFault::Full),
         ),
         accepted("close"),
         accepted("add after close"),
@@ -275,9 +288,9 @@ fn show_worked(rt: &HostRuntime) -> io::Result<()> {
     show(rt, 4, &calls, &all)?;
     let calls = [Call::Add(link(0, 1)), Call::Open, book(7, 1, 60, 4, 8)];
     let all = [
-        faulty("one node: add 0 to 1", NetFault::Tail),
+        faulty("one node: add 0 to 1", 3, NetFault::Tail),
         accepted("open"),
-        faulty("book from node 0", NetFault::Source),
+        faulty("book from node 0", 11, NetFault::Source),
     ];
     show(rt, 1, &calls, &all)
 }

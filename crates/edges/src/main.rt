@@ -4,9 +4,9 @@
 mod bookings;
 mod examples;
 
-ghost use Rattle.std.specs.Prelude.{◌≡◌, cond, length, codes};
+ghost use Rattle.std.specs.Prelude.{◌≡◌, cond, true, length, codes};
 ghost use Rattle.search.specs.Answers.{answer};
-ghost use Rattle.edges.specs.Tells.{Tells};
+ghost use Rattle.edges.specs.Tells.{Tells, refused_with, number_expected};
 
 use bookings::show_bookings;
 use examples::{examples, joined};
@@ -47,13 +47,34 @@ impl fmt::Display for Route {
     }
 }
 
+// An answer in words.
+#[derive(Clone, Copy)]
+struct Words(Result<Route, SearchFault>);
+
+impl fmt::Display for Words {
+    fn fmt<W: fmt::Write>(&self, f: &mut fmt::Formatter<W>) -> fmt::Result {
+        match self.0 {
+            Ok(route) => write!(f, "{route}"),
+            Err(fault) => {
+                let number = fault.number();
+                write!(f, "refused with {number}")
+            }
+        }
+    }
+}
+
+// The refusals that a search should give, each with its number.
+const FULL: (SearchFault, u16) = (SearchFault::Full, 16);
+
+const NO_ROUTE: (SearchFault, u16) = (SearchFault::NoRoute, 17);
+
 // A search from node 0 over a table of so many places, and what it should answer.
 #[derive(Clone, Copy)]
 struct Case {
     target: u16,
     hop_limit: u16,
     places: usize,
-    expected: Result<Route, SearchFault>,
+    expected: Result<Route, (SearchFault, u16)>,
 }
 
 fn answer_to<K: Kind>(
@@ -80,6 +101,13 @@ fn verdict(is_expected: bool) -> &'static str
     if is_expected { "ok" } else { "WRONG" }
 }
 
+// Whether a search answered as its case expects, a refusal with its number.
+fn is_as_expected(answer: &Result<Route, SearchFault>, case: &Case) -> bool
+    ensures { result ≡ true → refused_with answer.now ≡ number_expected case.now.expected }
+{
+    answer.map_err(|fault| (fault, fault.number())) == case.expected
+}
+
 fn show<K: Kind>(
     rt: &HostRuntime,
     name: &str,
@@ -102,15 +130,11 @@ fn show<K: Kind>(
             hop_limit,
         };
         let answer = answer_to(&query, &mut table[..places]);
-        let verdict = verdict(answer == case.expected);
-        print!(rt; "{name}, from 0 to {target}, hop limit {hop_limit}, label places {places}: ")?;
-        match answer {
-            Ok(route) => println!(rt; "{route}: {verdict}")?,
-            Err(fault) => {
-                let number = fault.number();
-                println!(rt; "refused with {number}: {verdict}")?;
-            }
-        }
+        let verdict = verdict(is_as_expected(&answer, case));
+        let answer = Words(answer);
+        println!(rt;
+            "{name}, from 0 to {target}, hop limit {hop_limit}, label places {places}: {answer}: {verdict}"
+        )?;
     }
     Ok(())
 }
@@ -204,7 +228,7 @@ fn show_delayed(rt: &HostRuntime) -> io::Result<()> {
             target: 3,
             hop_limit: 4,
             places: 4,
-            expected: Err(SearchFault::Full),
+            expected: Err(FULL),
         },
         Case {
             target: 3,
@@ -221,7 +245,7 @@ fn show_delayed(rt: &HostRuntime) -> io::Result<()> {
             target: 3,
             hop_limit: 1,
             places: 5,
-            expected: Err(SearchFault::NoRoute),
+            expected: Err(NO_ROUTE),
         },
         Case {
             target: 0,
@@ -269,13 +293,13 @@ fn show_delayed(rt: &HostRuntime) -> io::Result<()> {
             target: 3,
             hop_limit: 4,
             places: 1,
-            expected: Err(SearchFault::NoRoute),
+            expected: Err(NO_ROUTE),
         },
         Case {
             target: 3,
             hop_limit: 4,
             places: 0,
-            expected: Err(SearchFault::Full),
+            expected: Err(FULL),
         },
     ];
     show(
@@ -313,7 +337,7 @@ fn show_gated(rt: &HostRuntime) -> io::Result<()> {
         target: 3,
         hop_limit: 4,
         places: MOST_PLACES,
-        expected: Err(SearchFault::NoRoute),
+        expected: Err(NO_ROUTE),
     };
     let shutting = [
         gated(0, 1, 1, 99, 64),
@@ -367,7 +391,7 @@ fn show_allowance(rt: &HostRuntime) -> io::Result<()> {
         Ok(_) => println!(rt; "a budget with allowance 9: made: WRONG"),
         Err(fault) => {
             let number = fault.number();
-            let verdict = verdict(fault == BudgetFault::AllowanceAboveEight);
+            let verdict = verdict(number == 2 && fault == BudgetFault::AllowanceAboveEight);
             println!(rt; "a budget with allowance 9: refused with {number}: {verdict}")
         }
     }

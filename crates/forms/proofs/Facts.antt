@@ -11,12 +11,12 @@ use Rattle.forms.specs.Values.{budget_of}
 same_made : {A B : Type 0} (P : A → Type 0) → ((a : A) → IsProp (P a)) → (make : (a : A) → P a → B) → (a b : A) → a ≡ b → (p : P a) (q : P b) → make a p ≡ make b q
 same_made {A} {B} P one make a b e p q = subst (λ c. (r : P c) → make a p ≡ make c r) e (λ r. ap (make a) (one a p r)) q
 
-same_budget : (b c : Budget) → b.allowance ≡ c.allowance → b.limit ≡ c.limit → b ≡ c
+pub same_budget : (b c : Budget) → b.allowance ≡ c.allowance → b.limit ≡ c.limit → b ≡ c
 same_budget b c e f =
     same_made {A = ℕ × ℕ} (λ a. a.0 ≤ 8) (λ a. le_prop) (λ a p. record { allowance = a.0; limit = a.1; few = p }) (b.allowance, b.limit) (c.allowance, c.limit) (λ i. (e i, f i)) b.few c.few
 
 -- a number that fits is not cut
-uncut : (top n : ℕ) → n ≤ top → n ≡ min top n
+pub uncut : (top n : ℕ) → n ≤ top → n ≡ min top n
 uncut top n small = sym (min-eq_right small)
 
 -- a budget that was made is the one of its numbers

@@ -10,7 +10,7 @@ use Rattle.forms.specs.Nets.{net_line}
 use Rattle.forms.specs.declared.NetOrder.{NetOrder}
 
 -- one part more of all that is to be written
-part_more : {A : Type 0} (all out out' part rest : List A) → all ≡ out ++ (part ++ rest) → out' ≡ out ++ part → all ≡ out' ++ rest
+pub part_more : {A : Type 0} (all out out' part rest : List A) → all ≡ out ++ (part ++ rest) → out' ≡ out ++ part → all ≡ out' ++ rest
 part_more all out out' part rest is wrote = is ∙ sym (append_assoc out part rest) ∙ ap (λ l. l ++ rest) (sym wrote)
 
 module _ (n : ℕ) (ls : List (List ℕ)) (out : List ℕ) where

@@ -14,6 +14,10 @@ value_after n (b ∷ bs) = value_after (n * 10 + (b - 48)) bs
 abbrev pub value_of : List ℕ → ℕ
 value_of bs = value_after 0 bs
 
+-- the value of bytes that are digits
+abbrev pub decimal_of : List ℕ → Option ℕ
+decimal_of bs = cond (list_all is_ascii_digit bs) (Some (value_of bs)) None
+
 -- one or more lowercase letters
 abbrev pub is_word : List ℕ → Bool
 is_word bs = nat_le 1 (length bs) && list_all is_ascii_lowercase bs

@@ -1,9 +1,9 @@
 // A field of a line, and what its bytes are read as.
-ghost use Rattle.std.specs.Prelude.{◌≡◌, ◌-◌};
+ghost use Rattle.std.specs.Prelude.{◌≡◌, ◌-◌, ◌≤◌, length, if◌then◌else◌, Some, None};
 ghost use Rattle.std.specs.Char.{is_ascii_digit, is_ascii_lowercase};
 ghost use Rattle.std.specs.List.{list_all};
 ghost use Rattle.std.specs.Str.{bytes_eq};
-ghost use Rattle.reader.specs.Reading.{is_word, number_of, reading, meaning, bytes_of};
+ghost use Rattle.reader.specs.Reading.{decimal_of, is_word, number_of, reading, meaning, bytes_of};
 
 #[derive(Clone, Copy, Debug, PartialEq, Eq)]
 pub enum Field<'a> {
@@ -58,19 +58,32 @@ fn is_word(bytes: &[u8]) -> bool
     !bytes.is_empty() && are_letters(bytes)
 }
 
-fn are_digits(bytes: &[u8]) -> bool
-    ensures { result ≡ list_all is_ascii_digit bytes.now }
+// The value of a digit.
+fn digit(byte: u8) -> Option<u64>
+    ensures { result ≡ (if is_ascii_digit byte then Some (byte - 48) else None) }
 {
-    bytes.iter().all(|b| b.is_ascii_digit())
+    if byte.is_ascii_digit() {
+        Some(u64::from(byte - b'0'))
+    } else {
+        None
+    }
+}
+
+// The value of at most ten digits. They are gone over once: a text for `parse` would have to be tested first.
+fn decimal(bytes: &[u8]) -> Option<u64>
+    ensures { length bytes.now ≤ 10 → result ≡ decimal_of bytes.now }
+{
+    bytes.iter().fold(Some(0_u64), |value, b| {
+        Some(value?.saturating_mul(10).saturating_add(digit(*b)?))
+    })
 }
 
 // The value of one to ten digits that fits 32 bits.
-#[tactic(auto, using(crate::proofs::Readings::utf8, crate::proofs::Readings::parsed))]
 fn number(bytes: &[u8]) -> Option<u32>
     ensures { result ≡ number_of bytes.now }
 {
-    if bytes.len() > 10 || !are_digits(bytes) {
+    if bytes.is_empty() || bytes.len() > 10 {
         return None;
     }
-    str::from_utf8(bytes).ok()?.parse().ok()
+    u32::try_from(decimal(bytes)?).ok()
 }

@@ -22,12 +22,18 @@ module _ {X : Type 0} (table : List X) where
   length-stored ls =
       length-append (take (length table) ls) (drop (length ls) table) ∙ omega (arith, length-take (length table) ls, length-drop (length ls) table)
 
+  pub counted_fits : (ls : List X) → length ls ≤ length table → counted ls table ≡ Ok (length ls)
+  counted_fits ls le = cond-true _ _ _ (le-leb _ _ le)
+
+  pub counted_full : (ls : List X) → length table < length ls → counted ls table ≡ Err Full
+  counted_full ls lt = cond-false _ _ _ (lt-leb _ _ lt)
+
   -- a count says that each label found its place, and no count that one did not
-  pub counted_fits : (ls : List X) (n : ℕ) → Ok n ≡ counted ls table → (length ls ≤ length table) × (n ≡ length ls)
-  counted_fits ls n h =
+  pub fits_if_counted : (ls : List X) (n : ℕ) → Ok n ≡ counted ls table → (length ls ≤ length table) × (n ≡ length ls)
+  fits_if_counted ls n h =
       ⊎_elim
-      (λ over. absurd (ok_err (h ∙ cond-false _ _ _ (lt-leb _ _ over))))
-      (λ le. (le, same (h ∙ cond-true _ _ _ (le-leb _ _ le))))
+      (λ over. absurd (ok_err (h ∙ counted_full ls over)))
+      (λ le. (le, same (h ∙ counted_fits ls le)))
       (cases_lt (length table) (length ls))
     where
       same : ◌≡◌ {A = Result ℕ SearchFault} (Ok n) (Ok (length ls)) → n ≡ length ls
@@ -36,11 +42,11 @@ module _ {X : Type 0} (table : List X) where
       ok_err : ◌≡◌ {A = Result ℕ SearchFault} (Ok n) (Err Full) → ⊥
       ok_err e = let z : ◌≡◌ {A = ℕ} 0 1 = cc in omega arith
 
-  pub counted_full : (ls : List X) (f : SearchFault) → Err f ≡ counted ls table → (length table < length ls) × (f ≡ Full)
-  counted_full ls f h =
+  pub full_if_not : (ls : List X) (f : SearchFault) → Err f ≡ counted ls table → (length table < length ls) × (f ≡ Full)
+  full_if_not ls f h =
       ⊎_elim
-      (λ over. (over, same (h ∙ cond-false _ _ _ (lt-leb _ _ over))))
-      (λ le. absurd (err_ok (h ∙ cond-true _ _ _ (le-leb _ _ le))))
+      (λ over. (over, same (h ∙ counted_full ls over)))
+      (λ le. absurd (err_ok (h ∙ counted_fits ls le)))
       (cases_lt (length table) (length ls))
     where
       same : ◌≡◌ {A = Result ℕ SearchFault} (Err f) (Err Full) → f ≡ Full
@@ -51,7 +57,7 @@ module _ {X : Type 0} (table : List X) where
 
   pub counted_front : (ls : List X) (n : ℕ) → Ok n ≡ counted ls table → take n (stored ls table) ≡ ls
   counted_front ls n h =
-      let told = counted_fits ls n h in
+      let told = fits_if_counted ls n h in
       ap (take n) (stored_fits table ls told.0) ∙ take_at ls (drop (length ls) table) n (sym told.1)
 
 module _ {S : Type 0} (l : Labels S) where
