@@ -124,6 +124,26 @@ fn record_of<S: Copy>(request: &Request, found: &Found, labels: &[Label<S>]) -> 
 }
 
 impl<'a, K: Kind> Service<'a, K> {
+    // Searches the links of the net, beside the streams of the book.
+    fn find(
+        &self,
+        book: &Book,
+        kind: &K,
+        request: &Request,
+        labels: &mut [Label<K::State>],
+    ) -> Result<Found, SearchFault>
+        ensures answer { search_told_of result ≡ search_answer K.Kind.model (query (listed 512 self.now.links) (load (listed 64 book.now.streams)) kind.now request.now) (length labels.old) }
+        ensures table { labels.new ≡ stored (made K.Kind.model (query (listed 512 self.now.links) (load (listed 64 book.now.streams)) kind.now request.now)) labels.old }
+    {
+        find_route(
+            kind,
+            self.links.as_slice(),
+            book.streams.as_slice(),
+            request,
+            labels,
+        )
+    }
+
     pub fn book(
         &self,
         book: &mut Book,
@@ -137,13 +157,7 @@ impl<'a, K: Kind> Service<'a, K> {
         ensures ledger { (places : ℕ) → StepsWhere (λ site. length labels.old ≡ min places site.label_places) K.Kind.model (BookCall request.now kind.now places) (told three_values result) (served self.now.nodes self.now.links book.old.streams) (served self.now.nodes self.now.links book.new.streams) }
     {
         check_request(self.nodes, book, request)?;
-        let found = find_route(
-            kind,
-            self.links.as_slice(),
-            book.streams.as_slice(),
-            request,
-            labels,
-        )?;
+        let found = self.find(book, kind, request, labels)?;
         // A place is free: it was asked for.
         let _ = book.streams.push(record_of(request, &found, labels));
         // A count has 64 bits here; there is no `From` between the two types.

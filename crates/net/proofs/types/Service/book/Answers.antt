@@ -1,11 +1,8 @@
-use Rattle.std.proofs.Common.{Err, [], length, sym, ap, ap₂, ◌∙◌, subst}
+use Rattle.std.proofs.Common.{Err, [], sym, ap, ◌∙◌, subst}
 use Rattle.std.proofs.lemmas.Result.{err_from_is_err_and}
-use Rattle.search.specs.Answers.{answer as search_answer}
-use Rattle.search.specs.Rule.{made}
-use Rattle.slice_vec.specs.Tables.{listed, room, stored, pushed}
+use Rattle.slice_vec.specs.Tables.{listed, room, pushed}
 use Rattle.net.specs.Calls.{Books, numbers_of}
-use Rattle.net.specs.Questions.{book_refusal, query}
-use Rattle.net.specs.Tables.{load}
+use Rattle.net.specs.Questions.{book_refusal}
 use Rattle.net.proofs.Booking.{books_refused, books_unfound, books_found}
 use Rattle.net.proofs.Steps.{book_steps}
 use Rattle.net.proofs.Tabled.{unless_accepted}
@@ -35,11 +32,9 @@ returns-in_err-found g c =
     let labels = c.args.labels.now in
     let p = err_from_is_err_and c.from_residual-in_err-found.result c.from_residual-in_err-found.ensures.1 in
     let zero_is = (unless_accepted (book_refusal net.nodes (room 64 b) (numbers_of (listed 64 b)) r) [] [] c.in_ok-check_request.ensures).0 in
-    let asks = ap₂ (λ ls ss. query ls (load ss) k r) c.as_slice.ensures.items c.as_slice-2.ensures.items in
-    let h = subst (λ x. Books m net.nodes net.links b k r labels x b c.find_route.new.labels) (sym (p.1 ∙ ap Err p.2))
-    (books_unfound m laws net.nodes net.links b k r labels zero_is c.in_err-found.field-0.0 c.find_route.new.labels
-    (c.in_err-found.ensures.answer ∙ ap (λ q. search_answer m q (length labels)) asks)
-    (c.in_err-found.ensures.table ∙ ap (λ q. stored (made m q) labels) asks)) in
+    let h = subst (λ x. Books m net.nodes net.links b k r labels x b c.find.new.labels) (sym (p.1 ∙ ap Err p.2))
+    (books_unfound m laws net.nodes net.links b k r labels zero_is c.in_err-found.field-0.0 c.find.new.labels
+    c.in_err-found.ensures.answer c.in_err-found.ensures.table) in
     record { answer = h.answer_is; left = h.left_is; labels = h.labels_are; ledger = book_steps m net.nodes net.links b _ laws k r labels b h.answer_is h.left_is }
 
 pub returns : goal.returns
@@ -52,10 +47,8 @@ returns g c =
     let r = c.args.request.now in
     let labels = c.args.labels.now in
     let zero_is = (unless_accepted (book_refusal net.nodes (room 64 b) (numbers_of (listed 64 b)) r) [] [] c.in_ok-check_request.ensures).0 in
-    let asks = ap₂ (λ ls ss. query ls (load ss) k r) c.as_slice.ensures.items c.as_slice-2.ensures.items in
-    let h = books_found m laws net.nodes net.links b k r labels zero_is c.in_ok-found.found c.find_route.new.labels c.push.new.self
-    (c.in_ok-found.ensures.answer ∙ ap (λ q. search_answer m q (length labels)) asks)
-    (c.in_ok-found.ensures.table ∙ ap (λ q. stored (made m q) labels) asks)
+    let h = books_found m laws net.nodes net.links b k r labels zero_is c.in_ok-found.found c.find.new.labels c.push.new.self
+    c.in_ok-found.ensures.answer c.in_ok-found.ensures.table
     c.push.ensures.within
     (c.push.ensures.left ∙ ap (λ s. pushed 64 s b) c.record_of.ensures) in
     record { answer = h.answer_is; left = h.left_is; labels = h.labels_are; ledger = book_steps m net.nodes net.links b _ laws k r labels c.push.new.self h.answer_is h.left_is }
