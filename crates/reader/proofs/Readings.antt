@@ -1,5 +1,5 @@
 -- The value of digits, by the digits before the last.
-use Rattle.std.proofs.Common.{◌≡◌, ℕ, suc, ◌+◌, ◌*◌, ◌-◌, ◌^◌, ◌<◌, ◌≤◌, min, true, false, Bool, ◌&&◌, leb, cond, List, [], ◌∷◌, ◌++◌, length, Some, None, Option, refl, ap, subst, pow-suc, add-one, arith}
+use Rattle.std.proofs.Common.{◌≡◌, ℕ, suc, ◌+◌, ◌*◌, ◌-◌, ◌%◌, ◌^◌, ◌<◌, ◌≤◌, true, false, Bool, ◌&&◌, leb, cond, List, [], ◌∷◌, ◌++◌, length, Some, None, Option, refl, ap, subst, pow-suc, add-one, arith}
 use native.Mathlib.Numerals.{unary_clauses}
 use Rattle.std.specs.Char.{is_ascii_digit}
 use Rattle.std.specs.List.{list_all}
@@ -26,10 +26,10 @@ value_fits n k (b ∷ bs) l d =
     let same : k + 1 + length bs ≡ k + suc (length bs) = omega arith in
     subst (λ i. value_after (n * 10 + (b - 48)) bs < 10 ^ i) same rest
 
--- what a turn over a digit makes of the value so far, stopped where 64 bits end
+-- what a turn over a digit makes of the value so far, cut to 64 bits
 abbrev pub turn : Option ℕ → ℕ → Option ℕ
 turn None x = None
-turn (Some n) x = cond (is_ascii_digit x) (Some (min (min (n * 10) (2 ^ 64 - 1) + (x - 48)) (2 ^ 64 - 1))) None
+turn (Some n) x = cond (is_ascii_digit x) (Some (((n * 10) % 2 ^ 64 + (x - 48)) % 2 ^ 64)) None
 
 turn_fits : (n x i : ℕ) → n < 10 ^ i → i ≤ 9 → is_ascii_digit x ≡ true → turn (Some n) x ≡ Some (n * 10 + (x - 48))
 turn_fits n x i l few d =
@@ -40,8 +40,8 @@ turn_fits n x i l few d =
 -- a turn over x, by whether the digits before it are digits, and whether it is
 turn_by : (ys : List ℕ) (x : ℕ) (all one : Bool) → list_all is_ascii_digit ys ≡ all → is_ascii_digit x ≡ one → length ys ≤ 9 → turn (cond all (Some (value_of ys)) None) x ≡ cond (all && (one && true)) (Some (value_of ys * 10 + (x - 48))) None
 turn_by ys x false one a o few = refl
-turn_by ys x true false a o few = ap (λ v. cond v (Some (min (min (value_of ys * 10) (2 ^ 64 - 1) + (x - 48)) (2 ^ 64 - 1))) None) o
-turn_by ys x true true a o few = 
+turn_by ys x true false a o few = ap (λ v. cond v (Some (((value_of ys * 10) % 2 ^ 64 + (x - 48)) % 2 ^ 64)) None) o
+turn_by ys x true true a o few =
     let fits : value_of ys < 10 ^ (0 + length ys) = value_fits 0 0 ys (omega arith) a in
     let same : 0 + length ys ≡ length ys = omega arith in
     turn_fits (value_of ys) x (length ys) (subst (λ i. value_of ys < 10 ^ i) same fits) few o

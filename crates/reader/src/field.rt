@@ -74,7 +74,7 @@ fn decimal(bytes: &[u8]) -> Option<u64>
     ensures { length bytes.now ≤ 10 → result ≡ decimal_of bytes.now }
 {
     bytes.iter().fold(Some(0_u64), |value, b| {
-        Some(value?.saturating_mul(10).saturating_add(digit(*b)?))
+        Some(value?.wrapping_mul(10).wrapping_add(digit(*b)?))
     })
 }
 
