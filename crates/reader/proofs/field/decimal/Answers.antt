@@ -18,5 +18,5 @@ more ys a b x before made short =
 pub returns : goal.returns
 returns c =
     let read : Read c.iter.result.rest.now c.fold.result =
-        fold_over fronts (λ y. y.now) _ Read _ (λ ys a x b f' before called. (more ys a b x.now before (search rules), refl)) c.iter.result c.iter.result.rest.now (Some 0) c.fold.result (slice_gives c.iter.result) (λ short. refl) c.fold.ensures.ran in
+    fold_over fronts (λ y. y.now) _ Read _ (λ ys a x b f' before called. (more ys a b x.now before (search rules), refl)) c.iter.result c.iter.result.rest.now (Some 0) c.fold.result (slice_gives c.iter.result) (λ short. refl) c.fold.ensures.ran in
     rw c.iter.ensures.rest at read
