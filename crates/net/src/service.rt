@@ -27,6 +27,13 @@ impl<'a> Book<'a> {
             streams: SliceVec::new(streams),
         }
     }
+
+    // What the standing streams load a link with.
+    fn load_on(&self, link: u16) -> u64
+        ensures { result ≡ load (listed 64 self.now.streams) link }
+    {
+        load_of(self.streams.as_slice(), link)
+    }
 }
 
 // Writes the links of a stream into the list, if it is as long as the route.
@@ -197,7 +204,7 @@ impl<'a, K: Kind> Service<'a, K> {
         if usize::from(link) >= self.links.as_slice().len() {
             return Err(NetFault::NoLink);
         }
-        Ok(load_of(book.streams.as_slice(), link))
+        Ok(book.load_on(link))
     }
 
     // Ends every stream, and gives a net being laid again and how many there were.

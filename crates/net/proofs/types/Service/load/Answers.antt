@@ -12,5 +12,5 @@ returns g c =
     let b = c.args.book.now.streams in
     let i = c.args.link in
     let inside : i < length (listed 512 net.links) = omega (arith, c.from.ensures, c.if-from-as_slice.false, ap length c.as_slice.ensures.items) in
-    let answer = ap (λ n. (0, n ∷ [])) (c.load_of.ensures ∙ ap (λ ss. load ss i) c.as_slice-2.ensures.items) ∙ sym (unless_none _ (load (listed 64 b) i ∷ []) (cond-false _ _ _ (lt-leb _ _ inside))) in
+    let answer = ap (λ n. (0, n ∷ [])) c.load_on.ensures ∙ sym (unless_none _ (load (listed 64 b) i ∷ []) (cond-false _ _ _ (lt-leb _ _ inside))) in
     record { answer = answer; ledger = load_steps g.K.Kind.model net.nodes net.links b _ g.met.K.Kind.laws i answer }
