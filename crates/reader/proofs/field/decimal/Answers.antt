@@ -14,7 +14,6 @@ more ys a b x before made short =
     let few : length ys ≤ 9 = omega (arith, short, length_push ys x) in
     made ∙ ap (λ v. turn v x) (before (omega (arith, few))) ∙ turn_last ys x few
 
--- src/field.rt:73:1
 pub returns : goal.returns
 returns c =
     let read : Read c.iter.result.rest.now c.fold.result =
